@@ -1,0 +1,136 @@
+-- Laws of the distance and of bytes that are no chips. Assumes nothing.
+use mathlib.Core.Path.{_≡_, refl, sym, ap, _∙_}
+use mathlib.Core.Bool.{Bool, true, false}
+use mathlib.Core.List.{List, [], _∷_, _++_}
+use Prim.Native.Nat.{ℕ, zero, suc, _+_, _≤_, _<_}
+use native.Mathlib.Numerals.{add-one}
+use native.Mathlib.Omega.{arith}
+use lib.ListN.{length, getD, take, length-take}
+use lib.Seq.{take-suc, length-take-le, take-all}
+use lib.Bits.{bitXor}
+use lib.Dec.{eqb, ltb}
+use borrow.Author.Tests.{eqb-true, eqb-false, eq-eqb, ne-eqb, ltb-false, ltb-true, lt-ltb, le-ltb}
+use Rattle.codes.specs.Chips.{pick, differ, distance, bad}
+use Rattle.codes.specs.Matching.{xorSum}
+use Rattle.codes.proofs.Tests.{by-test, not-both}
+
+pub differ-same : (x y : ℕ) → x ≡ y → differ x y ≡ 0
+differ-same x y e = rw (eq-eqb x y e)
+
+pub differ-other : (x y : ℕ) → (x ≡ y → ⊥) → differ x y ≡ 1
+differ-other x y e = rw (ne-eqb x y e)
+
+pub differ-le : (x y : ℕ) → differ x y ≤ 1
+differ-le x y = by-test (eqb x y) (λ a. rw a (omega arith)) (λ a. rw a (omega arith))
+
+pub differ-sym : (x y : ℕ) → differ x y ≡ differ y x
+differ-sym x y =
+    by-test (eqb x y)
+    (λ a. differ-same x y (eqb-true x y a) ∙ sym (differ-same y x (sym (eqb-true x y a))))
+    (λ a. differ-other x y (eqb-false x y a) ∙ sym (differ-other y x (λ e. eqb-false x y a (sym e))))
+
+pub differ-tri : (x y z : ℕ) → differ x z ≤ differ x y + differ y z
+differ-tri x y z =
+    by-test (eqb x y)
+    (λ a. omega (arith, ap (λ (w : ℕ). differ w z) (eqb-true x y a)))
+    (λ a. omega (arith, differ-other x y (eqb-false x y a), differ-le x z))
+
+pub distance-sym : (xs ys : List ℕ) → distance xs ys ≡ distance ys xs
+unfolding distance
+distance-sym [] [] = refl
+distance-sym [] (y ∷ ys) = refl
+distance-sym (x ∷ xs) [] = refl
+distance-sym (x ∷ xs) (y ∷ ys) = omega (arith, distance-sym xs ys, differ-sym x y)
+
+pub distance-tri : (xs ys zs : List ℕ) → length xs ≡ length ys → distance xs zs ≤ distance xs ys + distance ys zs
+unfolding distance
+distance-tri [] ys zs e = omega arith
+distance-tri (x ∷ xs) [] zs e = absurd (omega arith)
+distance-tri (x ∷ xs) (y ∷ ys) [] e = omega arith
+distance-tri (x ∷ xs) (y ∷ ys) (z ∷ zs) e = omega (arith, distance-tri xs ys zs (omega arith), differ-tri x y z)
+
+pub distance-le : (xs ys : List ℕ) → distance xs ys ≤ length xs
+unfolding distance
+distance-le [] ys = omega arith
+distance-le (x ∷ xs) [] = omega arith
+distance-le (x ∷ xs) (y ∷ ys) = omega (arith, distance-le xs ys, differ-le x y)
+
+-- lists put together: the sum of the distances
+pub distance-append : (us ws xs ys : List ℕ) → length us ≡ length ws → distance (us ++ xs) (ws ++ ys) ≡ distance us ws + distance xs ys
+unfolding distance
+distance-append [] [] xs ys e = omega arith
+distance-append [] (w ∷ ws) xs ys e = absurd (omega arith)
+distance-append (u ∷ us) [] xs ys e = absurd (omega arith)
+distance-append (u ∷ us) (w ∷ ws) xs ys e = omega (arith, distance-append us ws xs ys (omega arith))
+
+-- one place more
+distance-more : (xs ys : List ℕ) (k : ℕ) → k < length xs → k < length ys → distance (take (suc k) xs) (take (suc k) ys) ≡ distance (take k xs) (take k ys) + differ (getD xs k 0) (getD ys k 0)
+unfolding distance
+distance-more xs ys k h j =
+    rw (take-suc xs k 0, take-suc ys k 0)
+    (distance-append (take k xs) (take k ys) (getD xs k 0 ∷ []) (getD ys k 0 ∷ []) (simp length-take (omega arith))
+    ∙ omega arith)
+
+-- bytes that are no chips
+pub bad-append : (xs ys : List ℕ) → bad (xs ++ ys) ≡ pick (bad xs) true (bad ys)
+unfolding bad
+bad-append [] ys = refl
+bad-append (x ∷ xs) ys = by-test (ltb 1 x) (λ a. rw a) (λ a. rw a (bad-append xs ys))
+
+-- none is bad: each is 0 or 1
+pub chip-at : (xs : List ℕ) → bad xs ≡ false → (k : ℕ) → getD xs k 0 ≤ 1
+unfolding bad
+chip-at [] b k = omega arith
+chip-at (x ∷ xs) b zero = by-test (ltb 1 x) (λ a. not-both true refl (rw a at b)) (λ a. ltb-false 1 x a)
+chip-at (x ∷ xs) b (suc k) = by-test (ltb 1 x) (λ a. not-both true refl (rw a at b)) (λ a. chip-at xs (rw a at b) k)
+
+-- of chips, an exclusive or is a difference
+xor-differ : (x y : ℕ) → x ≤ 1 → y ≤ 1 → bitXor x y ≡ differ x y
+xor-differ zero zero h j = refl
+xor-differ zero (suc zero) h j = refl
+xor-differ zero (suc (suc y)) h j = absurd (omega arith)
+xor-differ (suc zero) zero h j = refl
+xor-differ (suc zero) (suc zero) h j = refl
+xor-differ (suc zero) (suc (suc y)) h j = absurd (omega arith)
+xor-differ (suc (suc x)) y h j = absurd (omega arith)
+
+pub xor-cong : (f f′ g g′ : ℕ → ℕ) (k : ℕ) → ((i : ℕ) → i < k → f i ≡ f′ i) → ((i : ℕ) → i < k → g i ≡ g′ i) → xorSum f g k ≡ xorSum f′ g′ k
+unfolding xorSum
+xor-cong f f′ g g′ zero p q = refl
+xor-cong f f′ g g′ (suc k) p q =
+    rw (xor-cong f f′ g g′ k (λ i h. p i (omega arith)) (λ i h. q i (omega arith)), p k (omega arith), q k (omega arith))
+
+xor-take : (xs ys : List ℕ) → bad xs ≡ false → bad ys ≡ false → (k : ℕ) → k ≤ length xs → k ≤ length ys → k < 256
+    → xorSum (λ i. getD xs i 0) (λ i. getD ys i 0) k ≡ distance (take k xs) (take k ys)
+unfolding xorSum distance
+xor-take xs ys a b zero h j s = refl
+xor-take xs ys a b (suc k) h j s =
+    let ih = xor-take xs ys a b k (omega arith) (omega arith) (omega arith) in
+    let x = xor-differ (getD xs k 0) (getD ys k 0) (chip-at xs a k) (chip-at ys b k) in
+    let m = distance-more xs ys k (omega arith) (omega arith) in
+    let l = distance-le (take k xs) (take k ys) in
+    let t = length-take-le k xs (omega arith) in
+    let u = differ-le (getD xs k 0) (getD ys k 0) in
+    rw (ih, x, m) (omega arith)
+
+-- of two lists of chips, the sum of exclusive ors is the distance
+pub xor-distance : (xs ys : List ℕ) (n : ℕ) → bad xs ≡ false → bad ys ≡ false → length xs ≡ n → length ys ≡ n → n < 256
+    → xorSum (λ i. getD xs i 0) (λ i. getD ys i 0) n ≡ distance xs ys
+xor-distance xs ys n a b p q s =
+    xor-take xs ys a b n (omega arith) (omega arith) s ∙ rw (take-all n xs (omega arith), take-all n ys (omega arith))
+
+-- a turn of the loop that keeps the highest byte so far
+module _ (xs : List ℕ) (k most x : ℕ) (h : k < length xs) (e : x ≡ getD xs k 0) (b : ltb 1 most ≡ bad (take k xs)) where
+  bad-more : bad (take (k + 1) xs) ≡ pick (ltb 1 most) true (ltb 1 x)
+  unfolding bad
+  bad-more = rw (add-one, take-suc xs k 0, bad-append, b, ← e) (ap (λ (t : Bool). pick (bad (take k xs)) true t) (same (ltb 1 x)))
+    where
+      same : (t : Bool) → pick t true false ≡ t
+      same true = refl
+      same false = refl
+
+  pub higher : most < x → ltb 1 x ≡ bad (take (k + 1) xs)
+  higher l = by-test (ltb 1 most) (λ a. rw (bad-more, a) (lt-ltb 1 x (omega (arith, ltb-true 1 most a)))) (λ a. rw (bad-more, a))
+
+  pub no-higher : x ≤ most → ltb 1 most ≡ bad (take (k + 1) xs)
+  no-higher l = by-test (ltb 1 most) (λ a. rw (bad-more, a)) (λ a. rw (bad-more, a) (sym (le-ltb 1 x (omega (arith, ltb-false 1 most a)))))

@@ -1,0 +1,100 @@
+-- What the code computes is what `Symbol` says: the nearest word within the limit is the one word within it. Once over the
+-- radio; the last laws are at a mode, for `read_symbol`. Assumes nothing.
+use mathlib.Core.Path.{_≡_, sym, _∙_}
+use mathlib.Core.Bool.{true, false}
+use mathlib.Core.List.{List}
+use Prim.Native.Nat.{ℕ, zero, suc, _+_, _≤_, _<_}
+use native.Mathlib.Omega.{arith}
+use lib.ListN.{length, getD, take, drop, length-take, length-drop}
+use lib.Seq.{getD-take, getD-drop}
+use lib.Dec.{ltb, leb}
+use borrow.Author.Tests.{le-ltb, leb-true, leb-false}
+use Rattle.codes.specs.declared.Nearest.{Nearest}
+use Rattle.codes.specs.Numbers.{BADMODE, RUNOUT, NOCHIP}
+use Rattle.codes.specs.Chips.{distance, bad}
+use Rattle.codes.specs.Radio.{Radio, word, Sound, known, radioOf}
+use Rattle.codes.specs.Symbol.{refused, symbolOf, symbolAt}
+use Rattle.codes.specs.Matching.{sizeAt, tableOf, tableAt, from, sumTo, nearestOf, judged, matchIn, matchedAt}
+use Rattle.codes.proofs.Tests.{by-test}
+use Rattle.codes.proofs.Modes.{sized, sizeless}
+use Rattle.codes.proofs.Chips.{xor-cong, xor-distance}
+use Rattle.codes.proofs.Unique.{symbol-of, lost-of, nochip-of}
+use Rattle.codes.proofs.Rows.{chip-of}
+use Rattle.codes.proofs.Least.{least, attained}
+use Rattle.codes.proofs.Facts.{sound}
+use Rattle.codes.proofs.Lent.{table-known}
+
+module _ (r : Radio) (S : Sound r) (small : r .size < 256) (low : r .limit < 255) (chips : List ℕ) (at : ℕ) (fits : at + r .size ≤ length chips) where
+  -- the symbol's chips
+  abbrev window : List ℕ
+  window = take (r .size) (drop at chips)
+
+  -- the distances that the code computes
+  abbrev sums : ℕ → ℕ
+  sums = sumTo (tableOf r) chips at (r .size)
+
+  long : length window ≡ r .size
+  long = simp (length-take, length-drop) (omega arith)
+
+  chip-in : (i : ℕ) → i < r .size → from chips at i ≡ getD window i 0
+  chip-in i h = sym (getD-take (r .size) (drop at chips) i 0 h ∙ getD-drop at chips i 0)
+
+  module _ (b : bad window ≡ false) where
+    sum-distance : (v : ℕ) → v < length (r .words) → sums v ≡ distance window (word r v)
+    unfolding tableOf sumTo
+    sum-distance v h =
+        xor-cong _ (λ i. getD window i 0) _ (λ i. getD (word r v) i 0) (r .size) chip-in (λ i l. chip-of (r .size) (r .words) _ (S .sized) v i h l)
+        ∙ xor-distance window (word r v) (r .size) b (S .chips v h) long (S .sized v h) small
+
+    pub judged-symbol : judged (r .limit) (nearestOf sums (length (r .words))) ≡ symbolOf r window
+    unfolding judged
+    judged-symbol =
+        by-test (leb (n .distance) (r .limit))
+        (λ a.
+        let l = leb-true (n .distance) (r .limit) a in
+        let t = attained sums (length (r .words)) (omega arith) in
+        rw a (sym (symbol-of r window S long (n .value) (n .distance) (record { chip = b; known = t .0; apart = sym (t .1) ∙ sum-distance (n .value) (t .0); near = l }))))
+        (λ a. rw a (sym (lost-of r window (record { chip = b; far = λ v h. omega (arith, leb-false (n .distance) (r .limit) a, least sums (length (r .words)) v h, sum-distance v h) }))))
+      where
+        n : Nearest
+        n = nearestOf sums (length (r .words))
+
+    pub match-symbol : matchIn (r .size) (length (r .words)) (r .limit) (tableOf r) chips at ≡ symbolOf r window
+    unfolding matchIn
+    match-symbol = rw (le-ltb (length chips) (at + r .size) fits) judged-symbol
+
+-- each radio's numbers are small
+small : (mode : ℕ) → (radioOf mode .size < 256) × (radioOf mode .limit < 255)
+small zero = (omega arith, omega arith)
+small (suc zero) = (omega arith, omega arith)
+small (suc (suc m)) = (omega arith, omega arith)
+
+-- the four ways of `read_symbol`, at the size that the code found
+module _ (mode : ℕ) (chips : List ℕ) (at size : ℕ) (e : size ≡ sizeAt mode) where
+  pub no-radio : size ≡ 0 → refused BADMODE ≡ symbolAt mode chips at
+  unfolding symbolAt
+  no-radio z = rw (sizeless mode size e z)
+
+  module _ (z : size ≡ 0 → ⊥) where
+    is : size ≡ radioOf mode .size
+    is = sized mode size e z .1
+
+    pub too-few : ltb (length chips) (at + size) ≡ true → refused RUNOUT ≡ symbolAt mode chips at
+    unfolding symbolAt
+    too-few t = rw (sized mode size e z .0, rw is at t)
+
+    module _ (f : at + size ≤ length chips) where
+      enough : ltb (length chips) (at + radioOf mode .size) ≡ false
+      enough = rw is at (le-ltb (length chips) (at + size) f)
+
+      pub no-chip : bad (take size (drop at chips)) ≡ true → refused NOCHIP ≡ symbolAt mode chips at
+      unfolding symbolAt
+      no-chip b = rw (sized mode size e z .0, enough) (sym (nochip-of (radioOf mode) _ (rw is at b)))
+
+      -- with the mode's table lent, matching the chips is reading the symbol
+      pub matched-symbol : (table : List ℕ) → table ≡ tableAt mode → bad (take size (drop at chips)) ≡ false → matchedAt mode table chips at ≡ symbolAt mode chips at
+      unfolding matchedAt symbolAt
+      matched-symbol table t b =
+          let k = sized mode size e z .0 in
+          rw (k, enough, t, table-known mode k)
+          (match-symbol (radioOf mode) (sound mode) (small mode .0) (small mode .1) chips at (rw is at f) (rw is at b))

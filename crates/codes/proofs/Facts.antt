@@ -1,0 +1,122 @@
+-- Facts of the words that the work stands on, each one test that antt computes over every word or pair of words, and from
+-- them that both radios are sound. Assumes nothing.
+use mathlib.Core.Path.{_≡_, refl}
+use mathlib.Core.Bool.{Bool, true, false, not}
+use mathlib.Core.List.{List, [], _∷_}
+use Prim.Native.Nat.{ℕ, zero, suc, _+_, _*_, _/_, _^_, _≤_, _<_}
+use native.Mathlib.Omega.{arith}
+use lib.ListN.{length, replicate}
+use lib.Dec.{eqb, ltb}
+use borrow.Author.Tests.{eqb-true, eqb-false, ltb-true, ne-eqb, not-true}
+use Rattle.codes.specs.Chips.{pick, distance, bad}
+use Rattle.codes.specs.Radio.{Radio, word, Sound, radioOf, bpsk, oqpsk, bpskWords, oqpskWord, oqpskWords, turned, turns, oddInverted, turnedWords}
+use Rattle.codes.proofs.Tests.{by-test, not-both, every, each}
+
+abbrev pub ones : List ℕ → ℕ
+ones [] = 0
+ones (x ∷ xs) = x + ones xs
+
+abbrev pub among : ℕ → List ℕ → Bool
+among x [] = false
+among x (y ∷ ys) = pick (eqb x y) true (among x ys)
+
+-- a test of each word, and of each pair of different words
+everyWord : Radio → (ℕ → Bool) → Bool
+everyWord r p = every p (length (r .words))
+
+everyPair : Radio → (ℕ → ℕ → Bool) → Bool
+everyPair r p = every (λ u. every (λ v. pick (eqb u v) true (p u v)) (length (r .words))) (length (r .words))
+
+each-word : (r : Radio) (p : ℕ → Bool) → everyWord r p ≡ true → (v : ℕ) → v < length (r .words) → p v ≡ true
+unfolding everyWord
+each-word r p t = each p (length (r .words)) t
+
+each-pair : (r : Radio) (p : ℕ → ℕ → Bool) → everyPair r p ≡ true → (u v : ℕ) → u < length (r .words) → v < length (r .words) → (u ≡ v → ⊥) → p u v ≡ true
+unfolding everyPair
+each-pair r p t u v hu hv n =
+    rw (ne-eqb u v n) at (each (λ v. pick (eqb u v) true (p u v)) (length (r .words)) (each (λ u. every (λ v. pick (eqb u v) true (p u v)) (length (r .words))) (length (r .words)) t u hu) v hv)
+
+-- any two mode 1 words differ in 12, 14, 16, 18 or 20 chips
+pub oqpsk-pairs : (u v : ℕ) → u < 16 → v < 16 → (u ≡ v → ⊥) → among (distance (word oqpsk u) (word oqpsk v)) (12 ∷ 14 ∷ 16 ∷ 18 ∷ 20 ∷ []) ≡ true
+unfolding everyPair every distance oqpskWords turnedWords turns turned oddInverted oqpskWord
+oqpsk-pairs = each-pair oqpsk (λ u v. among (distance (word oqpsk u) (word oqpsk v)) (12 ∷ 14 ∷ 16 ∷ 18 ∷ 20 ∷ [])) refl
+
+-- every mode 1 word has 16 ones
+pub oqpsk-ones : (v : ℕ) → v < 16 → ones (word oqpsk v) ≡ 16
+unfolding everyWord every oqpskWords turnedWords turns turned oddInverted oqpskWord
+oqpsk-ones v h = eqb-true _ _ (each-word oqpsk (λ v. eqb (ones (word oqpsk v)) 16) refl v h)
+
+-- the two mode 0 words differ in all 15 chips and have 8 and 7 ones
+pub bpsk-words : (distance (word bpsk 0) (word bpsk 1) ≡ 15) × (ones (word bpsk 0) ≡ 8) × (ones (word bpsk 1) ≡ 7)
+unfolding distance bpskWords
+bpsk-words = (refl, refl, refl)
+
+-- a flat symbol, all 0 or all 1, is farther than the limit from every word
+flatTest : Radio → Bool
+flatTest r = everyWord r (λ v. pick (ltb (r .limit) (distance (replicate (r .size) 0) (word r v))) (ltb (r .limit) (distance (replicate (r .size) 1) (word r v))) false)
+
+abbrev pub Unflat : Radio → Type 0
+Unflat r = (c v : ℕ) → c ≤ 1 → v < length (r .words) → r .limit < distance (replicate (r .size) c) (word r v)
+
+unflat-by : (r : Radio) → flatTest r ≡ true → Unflat r
+unfolding flatTest
+unflat-by r t c v l h = go c l (ltb (r .limit) (distance (replicate (r .size) 0) (word r v))) refl (each-word r _ t v h)
+  where
+    go : (c : ℕ) → c ≤ 1 → (b : Bool) → ltb (r .limit) (distance (replicate (r .size) 0) (word r v)) ≡ b
+        → pick b (ltb (r .limit) (distance (replicate (r .size) 1) (word r v))) false ≡ true → r .limit < distance (replicate (r .size) c) (word r v)
+    go c l false e x = not-both false x refl
+    go zero l true e x = ltb-true _ _ e
+    go (suc zero) l true e x = ltb-true _ _ x
+    go (suc (suc c)) l true e x = absurd (omega arith)
+
+-- the tests that make a radio sound
+sizedTest : Radio → Bool
+sizedTest r = everyWord r (λ v. eqb (length (word r v)) (r .size))
+
+chipsTest : Radio → Bool
+chipsTest r = everyWord r (λ v. not (bad (word r v)))
+
+apartTest : Radio → Bool
+apartTest r = everyPair r (λ u v. ltb (2 * r .limit) (distance (word r u) (word r v)))
+
+sound-by : (r : Radio) → sizedTest r ≡ true → chipsTest r ≡ true → apartTest r ≡ true → length (r .words) ≡ 2 ^ r .bits → 8 / r .bits * r .bits ≡ 8
+    → (r .chained ≡ true → r .bits ≡ 1) → Sound r
+unfolding sizedTest chipsTest apartTest
+sound-by r s c a m w b =
+    record {
+      sized = λ v h. eqb-true _ _ (each-word r (λ v. eqb (length (word r v)) (r .size)) s v h);
+      chips = λ v h. not-true _ (each-word r (λ v. not (bad (word r v))) c v h);
+      many = m;
+      apart = λ u v hu hv l. by-test (eqb u v) (λ e. eqb-true _ _ e)
+          (λ e. absurd (omega (arith, ltb-true (2 * r .limit) (distance (word r u) (word r v)) (each-pair r (λ u v. ltb (2 * r .limit) (distance (word r u) (word r v))) a u v hu hv (eqb-false _ _ e)))));
+      whole = w;
+      single = b;
+    }
+
+pub sound-bpsk : Sound bpsk
+unfolding sizedTest chipsTest apartTest everyWord everyPair every distance bad bpskWords
+sound-bpsk = sound-by bpsk refl refl refl refl refl (λ _. refl)
+
+pub sound-oqpsk : Sound oqpsk
+unfolding sizedTest chipsTest apartTest everyWord everyPair every distance bad oqpskWords turnedWords turns turned oddInverted oqpskWord
+sound-oqpsk = sound-by oqpsk refl refl refl refl refl (λ c. not-both false c refl)
+
+unflat-bpsk : Unflat bpsk
+unfolding flatTest everyWord every distance bpskWords
+unflat-bpsk = unflat-by bpsk refl
+
+unflat-oqpsk : Unflat oqpsk
+unfolding flatTest everyWord every distance oqpskWords turnedWords turns turned oddInverted oqpskWord
+unflat-oqpsk = unflat-by oqpsk refl
+
+-- no row takes a flat symbol for a word
+pub unflat : (mode : ℕ) → Unflat (radioOf mode)
+unflat zero = unflat-bpsk
+unflat (suc zero) = unflat-oqpsk
+unflat (suc (suc m)) = unflat-bpsk
+
+-- each row is sound
+pub sound : (mode : ℕ) → Sound (radioOf mode)
+sound zero = sound-bpsk
+sound (suc zero) = sound-oqpsk
+sound (suc (suc m)) = sound-bpsk

@@ -1,0 +1,14 @@
+-- Laws that serve several functions or crates, leaves first.
+pub mod Tests
+pub mod Modes
+pub mod Copy
+pub mod Chips
+pub mod First
+pub mod Unique
+pub mod Rows
+pub mod Least
+pub mod Facts
+pub mod Rule
+pub mod Lent
+pub mod Equal
+pub mod Settled

@@ -1,0 +1,65 @@
+-- Not to be believed: what the code computes, shown equal to `Symbol` in proofs/Equal.antt where the lent table is the radio's
+-- and the bytes are chips. Windows are functions and sums recurse at their end, as the loops run.
+use Prim.Native.Nat.{ℕ, zero, suc, _+_, _-_, _*_, _%_, _^_}
+use mathlib.Core.List.{List, [], _∷_, _++_}
+use lib.ListN.{length, getD, replicate}
+use lib.Bits.{bitXor}
+use lib.Dec.{leb, ltb}
+use Rattle.codes.specs.declared.Symbol.{Symbol}
+use Rattle.codes.specs.declared.Nearest.{Nearest}
+use Rattle.codes.specs.Numbers.{DONE, BADMODE, RUNOUT, LOST}
+use Rattle.codes.specs.Chips.{pick}
+use Rattle.codes.specs.Radio.{Radio, known, radioOf}
+use Rattle.codes.specs.Symbol.{refused}
+
+-- chips in a symbol of a mode's radio; 0 where it has none
+abbrev pub sizeAt : ℕ → ℕ
+sizeAt mode = pick (known mode) (radioOf mode .size) 0
+
+-- words one after the other
+unfoldable pub joined : List (List ℕ) → List ℕ
+joined [] = []
+joined (w ∷ ws) = w ++ joined ws
+
+-- 512 numbers: the radio's words one after the other, then zeros
+unfoldable pub tableOf : Radio → List ℕ
+tableOf r = joined (r .words) ++ replicate (512 - length (joined (r .words))) 0
+
+-- the table of a mode's radio; zeros where it has none
+unfoldable pub tableAt : ℕ → List ℕ
+tableAt mode = pick (known mode) (tableOf (radioOf mode)) (replicate 512 0)
+
+-- the window of a list that begins at a place: its k-th element
+abbrev pub from : List ℕ → ℕ → ℕ → ℕ
+from xs base k = getD xs (base + k) 0
+
+-- the sum of k exclusive ors, as a byte holds it: the distance, where both windows are of chips
+unfoldable pub xorSum : (ℕ → ℕ) → (ℕ → ℕ) → ℕ → ℕ
+xorSum f g zero = 0
+xorSum f g (suc k) = (xorSum f g k + bitXor (f k) (g k)) % 2 ^ 8
+
+-- the sum for word v of a table and the chips from a place on
+unfoldable pub sumTo : List ℕ → List ℕ → ℕ → ℕ → ℕ → ℕ
+sumTo table chips at size v = xorSum (from chips at) (from table (v * size)) size
+
+-- the nearest of k words at the distances d, the lowest number on a tie; 0 at 255 where there is none nearer than 255
+unfoldable pub nearestOf : (ℕ → ℕ) → ℕ → Nearest
+nearestOf d zero = record { value = 0; distance = 255 }
+nearestOf d (suc k) = pick (ltb (d k) (nearestOf d k .distance)) (record { value = k; distance = d k }) (nearestOf d k)
+
+-- a nearest word within the limit is the symbol
+unfoldable pub judged : ℕ → Nearest → Symbol
+judged limit n =
+    pick (leb (n .distance) limit) (record { number = DONE; value = n .value; distance = n .distance }) (refused LOST)
+
+-- matching the chips from a place on with the words of a table
+unfoldable pub matchIn : ℕ → ℕ → ℕ → List ℕ → List ℕ → ℕ → Symbol
+matchIn size count limit table chips at =
+    pick (ltb (length chips) (at + size)) (refused RUNOUT)
+    (judged limit (nearestOf (sumTo table chips at size) count))
+
+unfoldable pub matchedAt : ℕ → List ℕ → List ℕ → ℕ → Symbol
+matchedAt mode table chips at =
+    pick (known mode)
+    (matchIn (radioOf mode .size) (length (radioOf mode .words)) (radioOf mode .limit) table chips at)
+    (refused BADMODE)

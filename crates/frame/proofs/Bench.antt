@@ -1,0 +1,81 @@
+-- The bench sheet of document 01, A to L, shown of the definitions together in one statement. Assumes nothing.
+use mathlib.Core.Path.{_≡_, refl}
+use mathlib.Core.Bool.{Bool}
+use mathlib.Core.List.{List, [], _∷_}
+use Prim.Native.Nat.{ℕ, zero, suc, _-_, _≤_, _<_}
+use native.Mathlib.Omega.{arith}
+use lib.ListN.{length, take, drop, replicate}
+use lib.Dec.{eqb}
+use borrow.Author.Tests.{eqb-true}
+use Rattle.codes.specs.declared.Symbol.{Symbol}
+use Rattle.codes.specs.Numbers.{DONE, LOST}
+use Rattle.codes.specs.Chips.{distance, bad}
+use Rattle.codes.specs.Radio.{word, bpsk, oqpsk, bpskWords, oqpskWord, oqpskWords, turnedWords, turns, turned, oddInverted}
+use Rattle.codes.specs.Symbol.{refused, within, first, valued, symbolOf}
+use Rattle.codes.proofs.Tests.{every, each}
+use Rattle.frame.specs.Frame.{digits, raws, encode, symbols, frame}
+use Rattle.frame.proofs.Count.{bpsk-chips, oqpsk-chips}
+
+-- chips with the first k inverted
+abbrev pub inverted : ℕ → List ℕ → List ℕ
+inverted zero w = w
+inverted (suc k) [] = []
+inverted (suc k) (x ∷ w) = (1 - x) ∷ inverted k w
+
+-- a symbol's value and distance
+abbrev pub reads : ℕ → ℕ → Symbol
+reads v d = record { number = DONE; value = v; distance = d }
+
+pub record BenchSheet : Type 0 where
+  -- mode 1 words 0 and 9 differ in 12 chips
+  pub A : distance (word oqpsk 0) (word oqpsk 9) ≡ 12
+  -- 0 and 3 in 20
+  pub B : distance (word oqpsk 0) (word oqpsk 3) ≡ 20
+  -- 0 and 8 in 16
+  pub C : distance (word oqpsk 0) (word oqpsk 8) ≡ 16
+  -- 32 flat chips, all 0 or all 1, are 16 from every mode 1 word: 6
+  pub D : (c : ℕ) → c ≤ 1 → ((v : ℕ) → v < 16 → distance (replicate 32 c) (word oqpsk v) ≡ 16) × (symbolOf oqpsk (replicate 32 c) ≡ refused LOST)
+  -- 15 zeros are 7 from the word for 1 and 8 from the word for 0: 6
+  pub E : (distance (replicate 15 0) (word bpsk 1) ≡ 7) × (distance (replicate 15 0) (word bpsk 0) ≡ 8) × (symbolOf bpsk (replicate 15 0) ≡ refused LOST)
+  -- 15 ones are 7 from the word for 0: 6
+  pub F : (distance (replicate 15 1) (word bpsk 0) ≡ 7) × (symbolOf bpsk (replicate 15 1) ≡ refused LOST)
+  -- word 0 of mode 1 with its first five chips inverted reads as 0 at distance 5
+  pub G : symbolOf oqpsk (inverted 5 (word oqpsk 0)) ≡ reads 0 5
+  -- with its first six inverted: 6
+  pub H : symbolOf oqpsk (inverted 6 (word oqpsk 0)) ≡ refused LOST
+  -- the mode 0 word for 0 with its first six inverted reads as 0
+  pub I : symbolOf bpsk (inverted 6 (word bpsk 0)) ≡ reads 0 6
+  -- with seven: 6; with nine it reads as 1
+  pub J : (symbolOf bpsk (inverted 7 (word bpsk 0)) ≡ refused LOST) × (symbolOf bpsk (inverted 9 (word bpsk 0)) ≡ reads 1 6)
+  -- the start octet is symbols 7, 10 in mode 1 and encoded bits 1 0 1 1 1 0 0 1 after the preamble in mode 0
+  pub K : (report : List ℕ) → (take 2 (drop 8 (symbols oqpsk report)) ≡ 7 ∷ 10 ∷ []) × (take 8 (drop 32 (symbols bpsk report)) ≡ 1 ∷ 0 ∷ 1 ∷ 1 ∷ 1 ∷ 0 ∷ 0 ∷ 1 ∷ [])
+  -- five octets give 704 chips in mode 1 and 1,320 in mode 0
+  pub L : (report : List ℕ) → length report ≡ 5 → (length (frame oqpsk report) ≡ 704) × (length (frame bpsk report) ≡ 1320)
+
+-- the test of D over every word
+flat : ℕ → ℕ → Bool
+flat c v = eqb (distance (replicate 32 c) (word oqpsk v)) 16
+
+D-of : (c : ℕ) → c ≤ 1 → ((v : ℕ) → v < 16 → distance (replicate 32 c) (word oqpsk v) ≡ 16) × (symbolOf oqpsk (replicate 32 c) ≡ refused LOST)
+unfolding flat every distance bad within first valued symbolOf oqpskWords turnedWords turns turned oddInverted oqpskWord
+D-of zero h = (λ v l. eqb-true _ _ (each (flat 0) 16 refl v l), refl)
+D-of (suc zero) h = (λ v l. eqb-true _ _ (each (flat 1) 16 refl v l), refl)
+D-of (suc (suc c)) h = absurd (omega arith)
+
+pub bench : BenchSheet
+unfolding distance bad within first valued symbolOf bpskWords oqpskWords turnedWords turns turned oddInverted oqpskWord digits raws encode symbols
+bench =
+    record {
+      A = refl;
+      B = refl;
+      C = refl;
+      D = D-of;
+      E = (refl, refl, refl);
+      F = (refl, refl);
+      G = refl;
+      H = refl;
+      I = refl;
+      J = (refl, refl);
+      K = λ report. (refl, refl);
+      L = λ report h. (omega (arith, oqpsk-chips report), omega (arith, bpsk-chips report));
+    }

@@ -1,0 +1,91 @@
+-- How many symbols and chips: of octets, and of a frame. Assumes nothing.
+use mathlib.Core.Path.{_≡_, refl, sym, ap, _∙_}
+use mathlib.Core.List.{List, [], _∷_, _++_}
+use Prim.Native.Nat.{ℕ, zero, suc, _+_, _*_, _/_, _^_, _<_}
+use native.Mathlib.Nat.{zero-mul, suc-mul, mul-assoc, mod-lt}
+use native.Mathlib.Omega.{arith}
+use lib.ListN.{length, length-append}
+use lib.Pow.{pow-pos}
+use Rattle.codes.specs.Radio.{Radio, word, Sound, bpsk, oqpsk}
+use Rattle.codes.proofs.Tests.{by-test}
+use Rattle.codes.proofs.Facts.{sound-bpsk, sound-oqpsk}
+use Rattle.frame.specs.Frame.{octets, perOctet, digits, rawOf, raws, sent, encode, symbols, chipsOf, frame}
+
+abbrev pub Below : ℕ → List ℕ → Type 0
+Below w [] = Unit {0}
+Below w (v ∷ vs) = (v < w) × Below w vs
+
+pub below-append : (w : ℕ) (xs ys : List ℕ) → Below w xs → Below w ys → Below w (xs ++ ys)
+below-append w [] ys p q = q
+below-append w (x ∷ xs) ys p q = (p .0, below-append w xs ys (p .1) q)
+
+pub digits-long : (k base x : ℕ) → length (digits k base x) ≡ k
+unfolding digits
+digits-long zero base x = refl
+digits-long (suc k) base x = ap suc (digits-long k base (x / base))
+
+pub digits-below : (k base x : ℕ) → 0 < base → Below base (digits k base x)
+unfolding digits
+digits-below zero base x h = tt
+digits-below (suc k) base x h = (mod-lt x h, digits-below k base (x / base) h)
+
+module _ (r : Radio) where
+  pub raws-long : (xs : List ℕ) → length (raws r xs) ≡ length xs * perOctet r
+  unfolding raws
+  raws-long [] = sym (zero-mul (perOctet r))
+  raws-long (x ∷ xs) =
+      omega (arith, length-append (rawOf r x) (raws r xs), digits-long (perOctet r) (2 ^ r .bits) x, raws-long xs, suc-mul (length xs) (perOctet r))
+
+  pub raws-below : (xs : List ℕ) → Below (2 ^ r .bits) (raws r xs)
+  unfolding raws
+  raws-below [] = tt
+  raws-below (x ∷ xs) = below-append (2 ^ r .bits) (rawOf r x) (raws r xs) (digits-below (perOctet r) (2 ^ r .bits) x (pow-pos (r .bits))) (raws-below xs)
+
+  pub encode-long : (last : ℕ) (bs : List ℕ) → length (encode r last bs) ≡ length bs
+  unfolding encode
+  encode-long last [] = refl
+  encode-long last (b ∷ bs) = ap suc (encode-long (sent r last b) bs)
+
+  -- symbols of a frame
+  pub symbols-long : (report : List ℕ) → length (symbols r report) ≡ (6 + length report) * perOctet r
+  unfolding symbols
+  symbols-long report = encode-long 0 (raws r (octets report)) ∙ raws-long (octets report) ∙ ap (λ (n : ℕ). n * perOctet r) (omega arith)
+
+module _ (r : Radio) (S : Sound r) where
+  pub sent-below : (last b : ℕ) → b < 2 ^ r .bits → sent r last b < 2 ^ r .bits
+  sent-below last b h = by-test (r .chained) (λ a. rw (a, S .single a) (omega arith)) (λ a. rw a h)
+
+  pub encode-below : (last : ℕ) (bs : List ℕ) → Below (2 ^ r .bits) bs → Below (2 ^ r .bits) (encode r last bs)
+  unfolding encode
+  encode-below last [] p = tt
+  encode-below last (b ∷ bs) p = (sent-below last b (p .0), encode-below (sent r last b) bs (p .1))
+
+  pub word-long : (v : ℕ) → v < 2 ^ r .bits → length (word r v) ≡ r .size
+  word-long v h = S .sized v (rw (S .many) h)
+
+  pub chips-long : (vs : List ℕ) → Below (2 ^ r .bits) vs → length (chipsOf r vs) ≡ length vs * r .size
+  unfolding chipsOf
+  chips-long [] p = sym (zero-mul (r .size))
+  chips-long (v ∷ vs) p =
+      omega (arith, length-append (word r v) (chipsOf r vs), word-long v (p .0), chips-long vs (p .1), suc-mul (length vs) (r .size))
+
+  -- chips of an octet
+  pub octet-long : (last x : ℕ) → length (chipsOf r (encode r last (rawOf r x))) ≡ perOctet r * r .size
+  octet-long last x =
+      chips-long (encode r last (rawOf r x)) (encode-below last (rawOf r x) (digits-below (perOctet r) (2 ^ r .bits) x (pow-pos (r .bits))))
+      ∙ ap (λ (n : ℕ). n * r .size) (encode-long r last (rawOf r x) ∙ digits-long (perOctet r) (2 ^ r .bits) x)
+
+  -- chips of a frame
+  pub frame-long : (report : List ℕ) → length (frame r report) ≡ (6 + length report) * (perOctet r * r .size)
+  unfolding frame symbols
+  frame-long report =
+      chips-long (symbols r report) (encode-below 0 (raws r (octets report)) (raws-below r (octets report)))
+      ∙ ap (λ (n : ℕ). n * r .size) (symbols-long r report)
+      ∙ mul-assoc (6 + length report) (perOctet r) (r .size)
+
+-- A frame has 720 + 120n chips in mode 0 and 384 + 64n in mode 1.
+pub bpsk-chips : (report : List ℕ) → length (frame bpsk report) ≡ 720 + 120 * length report
+bpsk-chips report = omega (arith, frame-long bpsk sound-bpsk report)
+
+pub oqpsk-chips : (report : List ℕ) → length (frame oqpsk report) ≡ 384 + 64 * length report
+oqpsk-chips report = omega (arith, frame-long oqpsk sound-oqpsk report)

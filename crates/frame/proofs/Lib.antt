@@ -1,0 +1,11 @@
+-- Laws of the frame and of writing it, leaves first, and the bench sheet.
+pub mod Modes
+pub mod Octets
+pub mod Over
+pub mod Words
+pub mod Count
+pub mod Parts
+pub mod Turns
+pub mod Writer
+pub mod Settled
+pub mod Bench

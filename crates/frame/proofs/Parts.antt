@@ -1,0 +1,67 @@
+-- Which symbols are which part of the frame (document 01's table of symbol numbers): the raw symbols from each number on are
+-- those of that part's octets, and symbol k is what is sent for raw symbol k. Assumes nothing.
+use mathlib.Core.Path.{_≡_, refl, sym, ap, _∙_}
+use mathlib.Core.List.{List, [], _∷_, _++_, append-assoc}
+use Prim.Native.Nat.{ℕ, zero, suc, _+_, _*_, _^_, _<_}
+use native.Mathlib.Nat.{add-mul, mul-comm}
+use native.Mathlib.Omega.{arith}
+use lib.ListN.{length, getD, take, drop}
+use lib.Seq.{take-at, drop-at}
+use Rattle.codes.specs.Radio.{Radio, bpsk, oqpsk}
+use Rattle.frame.specs.Frame.{startOctet, octets, perOctet, rawOf, raws, sent, encode, symbols}
+use Rattle.frame.proofs.Count.{digits-long, raws-long, symbols-long}
+
+-- the preamble is before symbol p, the start octet before s, the length octet before l, and the report after it
+pub record Parts (r : Radio) (p s l k : ℕ) : Type 0 where
+  pub preamble : (report : List ℕ) → take p (raws r (octets report)) ≡ raws r (0 ∷ 0 ∷ 0 ∷ 0 ∷ [])
+  pub start : (report : List ℕ) → take k (drop p (raws r (octets report))) ≡ rawOf r startOctet
+  pub length-octet : (report : List ℕ) → take k (drop s (raws r (octets report))) ≡ rawOf r (length report)
+  pub rest : (report : List ℕ) → drop l (raws r (octets report)) ≡ raws r report
+  pub total : (report : List ℕ) → length (symbols r report) ≡ l + k * length report
+
+module _ (r : Radio) where
+  -- octets xs, then ys: the raw symbols of ys begin where those of xs end
+  raws-append : (xs ys : List ℕ) → raws r (xs ++ ys) ≡ raws r xs ++ raws r ys
+  unfolding raws
+  raws-append [] ys = refl
+  raws-append (x ∷ xs) ys = rw (raws-append xs ys) (sym (append-assoc (rawOf r x) (raws r xs) (raws r ys)))
+
+  pub after : (xs ys : List ℕ) (n : ℕ) → length xs * perOctet r ≡ n → drop n (raws r (xs ++ ys)) ≡ raws r ys
+  after xs ys n e = rw raws-append (drop-at (raws r xs) (raws r ys) n (raws-long r xs ∙ e))
+
+  pub before : (xs ys : List ℕ) (n : ℕ) → length xs * perOctet r ≡ n → take n (raws r (xs ++ ys)) ≡ raws r xs
+  before xs ys n e = rw raws-append (take-at (raws r xs) (raws r ys) n (raws-long r xs ∙ e))
+
+  one : (x : ℕ) (ys : List ℕ) → take (perOctet r) (raws r (x ∷ ys)) ≡ rawOf r x
+  unfolding raws
+  one x ys = take-at (rawOf r x) (raws r ys) (perOctet r) (digits-long (perOctet r) (2 ^ r .bits) x)
+
+  -- symbol j is what is sent for raw symbol j after the symbol before it, the first after `last`
+  pub sent-first : (last b : ℕ) (bs : List ℕ) → getD (encode r last (b ∷ bs)) 0 0 ≡ sent r last b
+  unfolding encode
+  sent-first last b bs = refl
+
+  pub sent-next : (last : ℕ) (bs : List ℕ) (j : ℕ) → suc j < length bs → getD (encode r last bs) (suc j) 0 ≡ sent r (getD (encode r last bs) j 0) (getD bs (suc j) 0)
+  unfolding encode
+  sent-next last [] j h = absurd (omega arith)
+  sent-next last (b ∷ []) j h = absurd (omega arith)
+  sent-next last (b ∷ c ∷ bs) zero h = refl
+  sent-next last (b ∷ c ∷ bs) (suc j) h = sent-next (sent r last b) (c ∷ bs) j (omega arith)
+
+  pub parts : (p s l k : ℕ) → 4 * perOctet r ≡ p → 5 * perOctet r ≡ s → 6 * perOctet r ≡ l → perOctet r ≡ k → Parts r p s l k
+  parts p s l k ep es el ek =
+      record {
+        preamble = λ report. before (0 ∷ 0 ∷ 0 ∷ 0 ∷ []) (startOctet ∷ length report ∷ report) p ep;
+        start = λ report. rw (after (0 ∷ 0 ∷ 0 ∷ 0 ∷ []) (startOctet ∷ length report ∷ report) p ep, ← ek) (one startOctet (length report ∷ report));
+        length-octet = λ report. rw (after (0 ∷ 0 ∷ 0 ∷ 0 ∷ startOctet ∷ []) (length report ∷ report) s es, ← ek) (one (length report) report);
+        rest = λ report. after (0 ∷ 0 ∷ 0 ∷ 0 ∷ startOctet ∷ length report ∷ []) report l el;
+        total = λ report. symbols-long r report ∙ omega (arith, add-mul 6 (length report) (perOctet r), mul-comm (length report) (perOctet r), ap (λ (n : ℕ). n * length report) ek);
+      }
+
+-- preamble 0 to 31, start octet 32 to 39, length octet 40 to 47, report 48 to 47 + 8n
+pub bpsk-parts : Parts bpsk 32 40 48 8
+bpsk-parts = parts bpsk 32 40 48 8 refl refl refl refl
+
+-- preamble 0 to 7, start octet 8 and 9, length octet 10 and 11, report 12 to 11 + 2n
+pub oqpsk-parts : Parts oqpsk 8 10 12 2
+oqpsk-parts = parts oqpsk 8 10 12 2 refl refl refl refl

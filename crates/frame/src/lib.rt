@@ -1,0 +1,165 @@
+// A report's frame, and the writer that makes it: octets to symbols, symbols to chips. Every loop's invariant says "what is
+// still to be written over the buffer is the frame", so each turn is one law about writing over a list.
+ghost use mathlib.Core.Path.{_≡_};
+ghost use Prim.Native.Nat.{_+_, _*_, _/_, _%_, _^_, _≤_, _<_};
+ghost use lib.ListN.{length, getD, drop};
+ghost use lib.Seq.{paste};
+ghost use Rattle.codes.specs.Radio.{radioOf, word};
+ghost use Rattle.codes.specs.Matching.{tableAt};
+ghost use Rattle.frame.specs.Outcome.{outcome};
+ghost use Rattle.frame.specs.Frame.{octets, perOctet, rawOf, sent, encode, symbols, chipsOf};
+ghost use Rattle.frame.specs.Write.{refusal, written};
+ghost use Rattle.frame.specs.Putting.{over, lastSent, octetChips};
+
+// What the writer gives back: 0 and the chip count, or a refusal and 0.
+#[repr(C)]
+pub struct Written {
+    pub number: u32,
+    pub chips: u32,
+}
+
+// Writes the frame of a report for the mode's radio over the first chips of the buffer: 1, 2 and 3 in that order.
+pub fn write(mode: u32, report: &[u8], chips: &mut [u8]) -> Written
+    ensures { λ r. ⌜ outcome r (now (chips .exit)) ≡ written mode (now (report .entry)) (now (chips .entry)) ⌝ }
+{
+    if 1 < mode {
+        return unwritten(codes::BADMODE);
+    }
+    if 127 < report.len() {
+        return unwritten(codes::TOOLONG);
+    }
+    let count = (6 + report.len()) * octet_chips(mode);
+    if chips.len() < count {
+        return unwritten(codes::NOROOM);
+    }
+    put_frame(mode, report, chips);
+    Written {
+        number: codes::DONE,
+        chips: count as u32,
+    }
+}
+
+fn unwritten(number: u32) -> Written
+    ensures { λ r. ⌜ r ≡ refusal number ⌝ }
+{
+    Written { number, chips: 0 }
+}
+
+// Every octet of the frame in turn. The chain runs through all of them.
+fn put_frame(mode: u32, report: &[u8], out: &mut [u8])
+    requires { ⌜ (mode ≤ 1) × (length (now report) ≤ 127) × ((6 + length (now report)) * octetChips (radioOf mode) ≤ length (now out)) ⌝ }
+    ensures { λ _. ⌜ now (out .exit) ≡ over (now (out .entry)) 0 (chipsOf (radioOf mode) (symbols (radioOf mode) (now (report .entry)))) ⌝ }
+{
+    let words = codes::table(mode);
+    let size = octet_chips(mode);
+    let count = 6 + report.len();
+    let mut last: u8 = 0;
+    let mut at: usize = 0;
+    let mut j: usize = 0;
+    while j < count {
+        last = put_octet(mode, &words, last, octet_at(report, j), out, at);
+        at += size;
+        j += 1;
+    }
+}
+
+// Octet j of the frame.
+fn octet_at(report: &[u8], j: usize) -> u8
+    requires { ⌜ (length (now report) ≤ 127) × (j < 6 + length (now report)) ⌝ }
+    ensures { λ r. ⌜ r ≡ getD (octets (now (report .entry))) j 0 ⌝ }
+{
+    if j < 4 {
+        return 0;
+    }
+    if j == 4 {
+        return 0xA7;
+    }
+    if j == 5 {
+        return report.len() as u8;
+    }
+    report[j - 6]
+}
+
+// The symbols of one octet, its lowest bits first; the last of them comes back.
+fn put_octet(mode: u32, words: &[u8; 512], last: u8, octet: u8, out: &mut [u8], at: usize) -> u8
+    requires { ⌜ (mode ≤ 1) × (now words ≡ tableAt mode) × (last < 2 ^ radioOf mode .bits) × (at + octetChips (radioOf mode) ≤ length (now out)) ⌝ }
+    ensures { λ r. ⌜ r ≡ lastSent (radioOf mode) last (rawOf (radioOf mode) octet) ⌝ }
+    ensures { λ _. ⌜ now (out .exit) ≡ over (now (out .entry)) at (chipsOf (radioOf mode) (encode (radioOf mode) last (rawOf (radioOf mode) octet))) ⌝ }
+{
+    let size = codes::size_of(mode);
+    let count = per_octet(mode);
+    let mut v = last;
+    let mut rest = octet;
+    let mut p = at;
+    let mut i: usize = 0;
+    while i < count {
+        v = sent_symbol(mode, v, low_bits(mode, rest));
+        put_symbol(mode, words, v, out, p);
+        rest = high_bits(mode, rest);
+        p += size;
+        i += 1;
+    }
+    v
+}
+
+fn put_symbol(mode: u32, words: &[u8; 512], v: u8, out: &mut [u8], at: usize)
+    requires { ⌜ (mode ≤ 1) × (now words ≡ tableAt mode) × (v < length (radioOf mode .words)) × (at + radioOf mode .size ≤ length (now out)) ⌝ }
+    ensures { λ _. ⌜ now (out .exit) ≡ over (now (out .entry)) at (word (radioOf mode) v) ⌝ }
+{
+    let row = v as usize;
+    if mode == 0 {
+        put_word(words, row * 15, 15, out, at);
+    } else {
+        put_word(words, row * 32, 32, out, at);
+    }
+}
+
+// Copies one word of the table. Called with constants, so that it is a copy of constant length.
+fn put_word(words: &[u8; 512], row: usize, size: usize, out: &mut [u8], at: usize)
+    requires { ⌜ (row + size ≤ 512) × (length (now words) ≡ 512) × (at + size ≤ length (now out)) ⌝ }
+    ensures { λ _. ⌜ now (out .exit) ≡ paste (now (out .entry)) at (drop row (now (words .entry))) size ⌝ }
+{
+    let mut k: usize = 0;
+    while k < size {
+        out[at + k] = words[row + k];
+        k += 1;
+    }
+}
+
+// The symbol sent for a raw one after the symbol `last`.
+fn sent_symbol(mode: u32, last: u8, raw: u8) -> u8
+    requires { ⌜ (mode ≤ 1) × (last < 16) × (raw < 16) ⌝ }
+    ensures { λ r. ⌜ r ≡ sent (radioOf mode) last raw ⌝ }
+{
+    if mode == 0 { (last + raw) % 2 } else { raw }
+}
+
+// The raw symbol in the lowest bits.
+fn low_bits(mode: u32, x: u8) -> u8
+    requires { ⌜ mode ≤ 1 ⌝ }
+    ensures { λ r. ⌜ r ≡ x % 2 ^ radioOf mode .bits ⌝ }
+{
+    if mode == 0 { x % 2 } else { x % 16 }
+}
+
+// What is left above it.
+fn high_bits(mode: u32, x: u8) -> u8
+    requires { ⌜ mode ≤ 1 ⌝ }
+    ensures { λ r. ⌜ r ≡ x / 2 ^ radioOf mode .bits ⌝ }
+{
+    if mode == 0 { x / 2 } else { x / 16 }
+}
+
+fn per_octet(mode: u32) -> usize
+    requires { ⌜ mode ≤ 1 ⌝ }
+    ensures { λ r. ⌜ r ≡ perOctet (radioOf mode) ⌝ }
+{
+    if mode == 0 { 8 } else { 2 }
+}
+
+fn octet_chips(mode: u32) -> usize
+    requires { ⌜ mode ≤ 1 ⌝ }
+    ensures { λ r. ⌜ r ≡ octetChips (radioOf mode) ⌝ }
+{
+    if mode == 0 { 120 } else { 64 }
+}

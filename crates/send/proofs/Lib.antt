@@ -1,0 +1,2 @@
+-- Laws of the argument's digits.
+mod Digits

@@ -1,0 +1,2 @@
+-- What an argument says.
+pub mod Mode

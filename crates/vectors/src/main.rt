@@ -1,0 +1,68 @@
+// The cases of document 01 that are run and compared only. Each line is compared with the file stdout, whose chip strings were
+// typed from tables 21 and 24 of the draft standard and not made by this code.
+ghost use mathlib.Core.Path.{_≡_};
+ghost use lib.ListN.{length};
+use libc::STDOUT_FILENO;
+
+fn main() {
+    let report = [0x5Au8; 128];
+    let mut chips = buffer();
+    write_line(0, &report, 127, &mut chips, 15960);
+    write_line(0, &report, 127, &mut chips, 15959);
+    write_line(1, &report, 127, &mut chips, 8512);
+    write_line(1, &report, 127, &mut chips, 8511);
+    write_line(0, &report, 128, &mut chips, 15960);
+    write_line(1, &report, 128, &mut chips, 15960);
+    write_line(2, &report, 5, &mut chips, 15960);
+    write_line(255, &report, 5, &mut chips, 15960);
+    write_line(4294967295, &report, 5, &mut chips, 15960);
+    write_line(0, &report, 5, &mut chips, 15960);
+    write_line(1, &report, 5, &mut chips, 15960);
+    empty_frame(0, &mut chips);
+    empty_frame(1, &mut chips);
+}
+
+// Room for the longest frame.
+fn buffer() -> [u8; 15960]
+    ensures { λ r. ⌜ 15960 ≡ length r ⌝ }
+{
+    [0; 15960]
+}
+
+// The first so many octets written into so much of the room: prints mode, octets, room, number, chips.
+fn write_line(mode: u32, report: &[u8], octets: usize, chips: &mut [u8], room: usize) {
+    if report.len() < octets {
+        return;
+    }
+    if chips.len() < room {
+        return;
+    }
+    let written = frame::write(mode, &report[..octets], &mut chips[..room]);
+    number(mode as u64, b" ");
+    number(octets as u64, b" ");
+    number(room as u64, b" ");
+    number(written.number as u64, b" ");
+    number(written.chips as u64, b"\n");
+}
+
+fn number(n: u64, after: &[u8]) {
+    io::print_decimal(STDOUT_FILENO, n);
+    io::write_all(STDOUT_FILENO, after);
+}
+
+// The frame of an empty report, a digit a chip.
+fn empty_frame(mode: u32, chips: &mut [u8]) {
+    let report = [0u8; 0];
+    let written = frame::write(mode, &report, chips);
+    let count = written.chips as usize;
+    digits(&chips[..count]);
+    io::write_all(STDOUT_FILENO, b"\n");
+}
+
+fn digits(chips: &[u8]) {
+    let mut i: usize = 0;
+    while i < chips.len() {
+        io::print_decimal(STDOUT_FILENO, chips[i] as u64);
+        i += 1;
+    }
+}
