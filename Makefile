@@ -7,16 +7,16 @@ REPORT = host/report
 CAPTURE = build/capture.raw
 
 run: programs
-	@host/program send $(MODE) <$(REPORT) >$(CAPTURE)
-	@[ -s $(CAPTURE) ]
-	@echo "$(CAPTURE): $$(wc -c <$(CAPTURE)) chips, the mode $(MODE) frame of the $$(wc -c <$(REPORT)) octets of $(REPORT)"
+	@host/run "$(MODE)" "$(REPORT)" "$(CAPTURE)"
 
-test: programs
+test:
 	@host/kit
+	@$(MAKE) --no-print-directory programs
 	@host/send-test
 	@rt ci
 
-# proves what has changed and links the programs; quiet unless it fails
+# proves what has changed and links the program; quiet unless it fails
 programs:
 	@mkdir -p build
+	@[ -f target/bin/send ] || echo 'proving codes, frame and send: half a minute the first time'
 	@rt check send >build/programs.log 2>&1 || { tail -n 20 build/programs.log >&2; exit 1; }

@@ -3,20 +3,21 @@
 use mathlib.Core.Path.{_≡_, sym, _∙_}
 use mathlib.Core.Bool.{true, false}
 use mathlib.Core.List.{List}
-use Prim.Native.Nat.{ℕ, zero, suc, _+_, _≤_, _<_}
+use Prim.Native.Nat.{ℕ, _+_, _≤_, _<_}
 use native.Mathlib.Omega.{arith}
 use lib.ListN.{length, getD, take, drop, length-take, length-drop}
 use lib.Seq.{getD-take, getD-drop}
 use lib.Dec.{ltb, leb}
-use borrow.Author.Tests.{le-ltb, leb-true, leb-false}
+use borrow.Author.Tests.{le-ltb, leb-true, leb-false, ltb-false}
 use Rattle.codes.specs.declared.Nearest.{Nearest}
 use Rattle.codes.specs.Numbers.{BADMODE, RUNOUT, NOCHIP}
 use Rattle.codes.specs.Chips.{distance, bad}
 use Rattle.codes.specs.Radio.{Radio, word, Sound, known, radioOf}
 use Rattle.codes.specs.Symbol.{refused, symbolOf, symbolAt}
-use Rattle.codes.specs.Matching.{sizeAt, tableOf, tableAt, from, sumTo, nearestOf, judged, matchIn, matchedAt}
+use Rattle.codes.specs.Lent.{sizeAt, tableOf, tableAt}
+use Rattle.codes.specs.Matching.{from, sumTo, nearestOf, judged, matchIn, matchedAt}
 use Rattle.codes.proofs.Tests.{by-test}
-use Rattle.codes.proofs.Modes.{sized, sizeless}
+use Rattle.codes.proofs.Modes.{each-row, sized, sizeless}
 use Rattle.codes.proofs.Chips.{xor-cong, xor-distance}
 use Rattle.codes.proofs.Unique.{symbol-of, lost-of, nochip-of}
 use Rattle.codes.proofs.Rows.{chip-of}
@@ -46,7 +47,7 @@ module _ (r : Radio) (S : Sound r) (small : r .size < 256) (low : r .limit < 255
         xor-cong _ (λ i. getD window i 0) _ (λ i. getD (word r v) i 0) (r .size) chip-in (λ i l. chip-of (r .size) (r .words) _ (S .sized) v i h l)
         ∙ xor-distance window (word r v) (r .size) b (S .chips v h) long (S .sized v h) small
 
-    pub judged-symbol : judged (r .limit) (nearestOf sums (length (r .words))) ≡ symbolOf r window
+    judged-symbol : judged (r .limit) (nearestOf sums (length (r .words))) ≡ symbolOf r window
     unfolding judged
     judged-symbol =
         by-test (leb (n .distance) (r .limit))
@@ -59,17 +60,23 @@ module _ (r : Radio) (S : Sound r) (small : r .size < 256) (low : r .limit < 255
         n : Nearest
         n = nearestOf sums (length (r .words))
 
-    pub match-symbol : matchIn (r .size) (length (r .words)) (r .limit) (tableOf r) chips at ≡ symbolOf r window
-    unfolding matchIn
-    match-symbol = rw (le-ltb (length chips) (at + r .size) fits) judged-symbol
-
 -- each radio's numbers are small
 small : (mode : ℕ) → (radioOf mode .size < 256) × (radioOf mode .limit < 255)
-small zero = (omega arith, omega arith)
-small (suc zero) = (omega arith, omega arith)
-small (suc (suc m)) = (omega arith, omega arith)
+small = each-row (λ r. (r .size < 256) × (r .limit < 255)) (omega arith, omega arith) (omega arith, omega arith)
 
--- the four ways of `read_symbol`, at the size that the code found
+-- At any mode and place, with the mode's own table lent and no byte that is no chip, matching is reading the symbol.
+pub matched-symbol : (mode : ℕ) (table chips : List ℕ) (at : ℕ) → table ≡ tableAt mode → bad (take (radioOf mode .size) (drop at chips)) ≡ false
+    → matchedAt mode table chips at ≡ symbolAt mode chips at
+unfolding matchedAt symbolAt matchIn
+matched-symbol mode table chips at t b =
+    by-test (known mode)
+    (λ k. by-test (ltb (length chips) (at + radioOf mode .size))
+    (λ o. rw (k, o))
+    (λ o. rw (k, o, t, table-known mode k)
+    (judged-symbol (radioOf mode) (sound mode) (small mode .0) (small mode .1) chips at (ltb-false _ _ o) b)))
+    (λ k. rw k)
+
+-- the ways of `read_symbol`, at the size that the code found
 module _ (mode : ℕ) (chips : List ℕ) (at size : ℕ) (e : size ≡ sizeAt mode) where
   pub no-radio : size ≡ 0 → refused BADMODE ≡ symbolAt mode chips at
   unfolding symbolAt
@@ -83,18 +90,11 @@ module _ (mode : ℕ) (chips : List ℕ) (at size : ℕ) (e : size ≡ sizeAt mo
     unfolding symbolAt
     too-few t = rw (sized mode size e z .0, rw is at t)
 
-    module _ (f : at + size ≤ length chips) where
-      enough : ltb (length chips) (at + radioOf mode .size) ≡ false
-      enough = rw is at (le-ltb (length chips) (at + size) f)
+    pub no-chip : at + size ≤ length chips → bad (take size (drop at chips)) ≡ true → refused NOCHIP ≡ symbolAt mode chips at
+    unfolding symbolAt
+    no-chip f b =
+        rw (sized mode size e z .0, rw is at (le-ltb (length chips) (at + size) f))
+        (sym (nochip-of (radioOf mode) _ (rw is at b)))
 
-      pub no-chip : bad (take size (drop at chips)) ≡ true → refused NOCHIP ≡ symbolAt mode chips at
-      unfolding symbolAt
-      no-chip b = rw (sized mode size e z .0, enough) (sym (nochip-of (radioOf mode) _ (rw is at b)))
-
-      -- with the mode's table lent, matching the chips is reading the symbol
-      pub matched-symbol : (table : List ℕ) → table ≡ tableAt mode → bad (take size (drop at chips)) ≡ false → matchedAt mode table chips at ≡ symbolAt mode chips at
-      unfolding matchedAt symbolAt
-      matched-symbol table t b =
-          let k = sized mode size e z .0 in
-          rw (k, enough, t, table-known mode k)
-          (match-symbol (radioOf mode) (sound mode) (small mode .0) (small mode .1) chips at (rw is at f) (rw is at b))
+    pub all-chips : (table : List ℕ) → table ≡ tableAt mode → bad (take size (drop at chips)) ≡ false → matchedAt mode table chips at ≡ symbolAt mode chips at
+    all-chips table t b = matched-symbol mode table chips at t (rw is at b)

@@ -1,13 +1,14 @@
 -- Tables of a mode's words. Assumes nothing.
 use mathlib.Core.Path.{_≡_, refl}
 use mathlib.Core.Bool.{true}
-use Prim.Native.Nat.{ℕ, zero, suc, _+_, _*_, _≤_, _<_}
+use Prim.Native.Nat.{ℕ, _+_, _*_, _≤_, _<_}
 use native.Mathlib.Omega.{arith}
-use borrow.Author.Tests.{le-ltb}
 use lib.ListN.{length, getD, take, drop}
 use Rattle.codes.specs.Radio.{bpskWords, oqpskWord, oqpskWords, turnedWords, turns, turned, oddInverted, known, radioOf, word}
-use Rattle.codes.specs.Matching.{joined, tableOf, tableAt}
+use Rattle.codes.specs.Lent.{joined, tableOf, tableAt}
 use Rattle.codes.proofs.Rows.{chip-of, row-of}
+use Rattle.codes.proofs.Tests.{by-test}
+use Rattle.codes.proofs.Modes.{each-row}
 use Rattle.codes.proofs.Facts.{sound}
 
 pub table-known : (mode : ℕ) → known mode ≡ true → tableAt mode ≡ tableOf (radioOf mode)
@@ -16,9 +17,10 @@ table-known mode k = rw k
 
 pub table-long : (mode : ℕ) → length (tableAt mode) ≡ 512
 unfolding tableAt tableOf joined bpskWords oqpskWords turnedWords turns turned oddInverted oqpskWord
-table-long zero = refl
-table-long (suc zero) = refl
-table-long (suc (suc m)) = rw (le-ltb (suc (suc m)) 2 (omega arith))
+table-long mode =
+    by-test (known mode)
+    (λ k. rw (table-known mode k) (each-row (λ r. length (tableOf r) ≡ 512) refl refl mode))
+    (λ k. rw k)
 
 -- number v * n + k of a mode's table, with n chips a word, is chip k of word v
 pub table-chip : (mode : ℕ) → known mode ≡ true → (v k : ℕ) → v < length (radioOf mode .words) → k < radioOf mode .size
@@ -35,6 +37,4 @@ table-row mode k v h = rw (table-known mode k) (row-of (radioOf mode .size) (rad
 -- and lies in it
 pub row-fits : (mode v : ℕ) → v < length (radioOf mode .words) → v * radioOf mode .size + radioOf mode .size ≤ 512
 unfolding bpskWords oqpskWords turnedWords turns
-row-fits zero v h = omega arith
-row-fits (suc zero) v h = omega arith
-row-fits (suc (suc m)) v h = omega arith
+row-fits mode v = each-row (λ r. v < length (r .words) → v * r .size + r .size ≤ 512) (λ h. omega arith) (λ h. omega arith) mode

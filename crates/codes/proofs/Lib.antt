@@ -8,7 +8,7 @@ pub mod Unique
 pub mod Rows
 pub mod Least
 pub mod Facts
-pub mod Rule
 pub mod Lent
+pub mod Rule
 pub mod Equal
 pub mod Settled

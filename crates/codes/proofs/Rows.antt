@@ -7,7 +7,7 @@ use native.Mathlib.Numerals.{add-one}
 use native.Mathlib.Omega.{arith}
 use lib.ListN.{length, getD, take, drop, List·getD-append}
 use lib.Seq.{getD-append-add, drop-append-add, take-at}
-use Rattle.codes.specs.Matching.{joined}
+use Rattle.codes.specs.Lent.{joined}
 
 -- a row lies within a table of as many rows
 pub row-in : (v count n : ℕ) → v < count → v * n + n ≤ count * n
@@ -33,7 +33,7 @@ chip-of n (w ∷ ws) rest s (suc v) k h j =
     let e : suc v * n + k ≡ n + (v * n + k) = omega (arith, suc-mul v n) in
     rw (append-assoc, e) (past w (joined ws ++ rest) n (v * n + k) (s 0 (omega arith)) ∙ chip-of n ws rest (λ u l. s (suc u) (omega arith)) v k (omega arith) j)
 
-drop-past : (xs ys : List ℕ) (n k : ℕ) → length xs ≡ n → drop (n + k) (xs ++ ys) ≡ drop k ys
+pub drop-past : (xs ys : List ℕ) (n k : ℕ) → length xs ≡ n → drop (n + k) (xs ++ ys) ≡ drop k ys
 drop-past xs ys n k e = rw (← e) (drop-append-add xs ys k)
 
 -- word v is row v

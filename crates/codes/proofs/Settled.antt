@@ -1,23 +1,36 @@
--- A promise settles what it speaks of: two outcomes that satisfy it are equal. One law, cited for each public function.
--- Assumes nothing.
+-- A promise settles what it speaks of: two outcomes that satisfy it are equal. `Settles` speaks of a function's own contract: of
+-- what its `ensures` says (`Post`) at any lifetimes, arguments and parameters at exit. One law answers it for each public
+-- function whose promise is an equation. Assumes nothing.
 use mathlib.Core.Path.{_≡_, sym, _∙_}
 use mathlib.Core.List.{List}
 use Prim.Native.Nat.{ℕ}
-use Rattle.codes.specs.declared.Symbol.{Symbol}
-use Rattle.codes.specs.Symbol.{symbolAt}
-use Rattle.codes.specs.Matching.{sizeAt, tableAt, matchedAt}
+use contract.Lifetimes.{Lfts}
+use denote.Triple.Clauses.{AtExit}
+use borrow.Fn.Kinds.{PK, RK, Out, Dens, resT, endedOf}
+use Rattle.codes.proofs.size_of.Kinds as size-of-kinds
+use Rattle.codes.proofs.size_of.Reads as size-of-promise
+use Rattle.codes.proofs.tables.table.Kinds as table-kinds
+use Rattle.codes.proofs.tables.table.Reads as table-promise
+use Rattle.codes.proofs.read_symbol.Kinds as read-symbol-kinds
+use Rattle.codes.proofs.read_symbol.Reads as read-symbol-promise
+use Rattle.codes.proofs.matched.Kinds as matched-kinds
+use Rattle.codes.proofs.matched.Reads as matched-promise
 
 pub settled : {A : Type 0} {x : A} (p q : A) → p ≡ x → q ≡ x → p ≡ q
 settled p q e f = e ∙ sym f
 
-pub size-of-settled : (mode p q : ℕ) → p ≡ sizeAt mode → q ≡ sizeAt mode → p ≡ q
-size-of-settled mode = settled
+-- two results that satisfy the promise are equal
+abbrev pub Settles : (n : ℕ) (ps : List (PK n)) (r : RK n) → Out n ps r → Type 0
+Settles n ps r Post = (κs : Lfts n) (a : Dens κs ps) (p q : resT r κs .Denot) (s t : AtExit (endedOf n ps r) κs) → Post κs a p s → Post κs a q t → p ≡ q
 
-pub table-settled : (mode : ℕ) (p q : List ℕ) → p ≡ tableAt mode → q ≡ tableAt mode → p ≡ q
-table-settled mode = settled
+pub size-of-settled : Settles 0 size-of-kinds.ps size-of-kinds.r size-of-promise.Post
+size-of-settled κs a p q s t = settled p q
 
-pub read-symbol-settled : (mode : ℕ) (chips : List ℕ) (at : ℕ) (p q : Symbol) → p ≡ symbolAt mode chips at → q ≡ symbolAt mode chips at → p ≡ q
-read-symbol-settled mode chips at = settled
+pub table-settled : Settles 0 table-kinds.ps table-kinds.r table-promise.Post
+table-settled κs a p q s t = settled p q
 
-pub matched-settled : (mode : ℕ) (words chips : List ℕ) (at : ℕ) (p q : Symbol) → p ≡ matchedAt mode words chips at → q ≡ matchedAt mode words chips at → p ≡ q
-matched-settled mode words chips at = settled
+pub read-symbol-settled : Settles 1 read-symbol-kinds.ps read-symbol-kinds.r read-symbol-promise.Post
+read-symbol-settled κs a p q s t = settled p q
+
+pub matched-settled : Settles 2 matched-kinds.ps matched-kinds.r matched-promise.Post
+matched-settled κs a p q s t = settled p q

@@ -12,7 +12,7 @@ use Rattle.codes.specs.declared.Symbol.{Symbol}
 use Rattle.codes.specs.Numbers.{LOST, NOCHIP}
 use Rattle.codes.specs.Chips.{pick, distance, bad}
 use Rattle.codes.specs.Radio.{Radio, word, Sound}
-use Rattle.codes.specs.Symbol.{refused, within, first, valued, symbolOf}
+use Rattle.codes.specs.Symbol.{refused, reads, within, first, valued, symbolOf}
 use Rattle.codes.proofs.Tests.{by-test}
 use Rattle.codes.proofs.Chips.{distance-sym, distance-tri}
 use Rattle.codes.proofs.First.{first-true, first-upto}
@@ -51,12 +51,12 @@ module _ (r : Radio) (chips : List ℕ) where
   found-upto v h n = first-upto (within r chips) 0 (length (r .words)) v (omega arith) (omega arith) (le-within v n)
 
   -- what is answered with a value is within the limit of that value's word
-  pub of-symbol : (v d : ℕ) → symbolOf r chips ≡ record { number = 0; value = v; distance = d } → Reads r chips v d
+  pub of-symbol : (v d : ℕ) → symbolOf r chips ≡ reads v d → Reads r chips v d
   unfolding symbolOf valued found
   of-symbol v d e = go (bad chips) refl (ltb found (length (r .words))) refl e
     where
       go : (t : Bool) → bad chips ≡ t → (s : Bool) → ltb found (length (r .words)) ≡ s
-          → pick t (refused NOCHIP) (pick s (record { number = 0; value = found; distance = distance chips (word r found) }) (refused LOST)) ≡ record { number = 0; value = v; distance = d }
+          → pick t (refused NOCHIP) (pick s (reads found (distance chips (word r found))) (refused LOST)) ≡ reads v d
           → Reads r chips v d
       go true p s q x = absurd (omega (arith, ap (λ (h : Symbol). h .number) x))
       go false p false q x = absurd (omega (arith, ap (λ (h : Symbol). h .number) x))
@@ -85,7 +85,7 @@ module _ (r : Radio) (chips : List ℕ) where
   of-lost e = go (bad chips) refl (ltb found (length (r .words))) refl e
     where
       go : (t : Bool) → bad chips ≡ t → (s : Bool) → ltb found (length (r .words)) ≡ s
-          → pick t (refused NOCHIP) (pick s (record { number = 0; value = found; distance = distance chips (word r found) }) (refused LOST)) ≡ refused LOST
+          → pick t (refused NOCHIP) (pick s (reads found (distance chips (word r found))) (refused LOST)) ≡ refused LOST
           → Stray r chips
       go true p s q x = absurd (omega (arith, ap (λ (h : Symbol). h .number) x))
       go false p true q x = absurd (omega (arith, ap (λ (h : Symbol). h .number) x))
@@ -105,7 +105,7 @@ module _ (r : Radio) (chips : List ℕ) where
         (omega (arith, distance-tri (word r u) chips (word r v) (S .sized u hu ∙ sym l), distance-sym (word r u) chips))
 
     -- a word within the limit is the answer
-    pub symbol-of : (v d : ℕ) → Reads r chips v d → symbolOf r chips ≡ record { number = 0; value = v; distance = d }
+    pub symbol-of : (v d : ℕ) → Reads r chips v d → symbolOf r chips ≡ reads v d
     unfolding symbolOf valued found
     symbol-of v d w =
         let n : distance chips (word r v) ≤ r .limit = omega arith in

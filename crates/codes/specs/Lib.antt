@@ -1,7 +1,8 @@
--- What a reader must believe of the radios: the numbers given back, distance, the radios, reading one symbol. `Matching` is
--- not among it: it is what the code computes, shown equal.
+-- What a reader must believe of the radios: the numbers given back, distance, the radios, reading one symbol, and what is
+-- given to whoever reads or writes many. `Matching` is not among it: it is what the code computes, shown equal.
 pub mod Numbers
 pub mod Chips
 pub mod Radio
 pub mod Symbol
+pub mod Lent
 pub mod Matching

@@ -1,33 +1,16 @@
 -- Not to be believed: what the code computes, shown equal to `Symbol` in proofs/Equal.antt where the lent table is the radio's
 -- and the bytes are chips. Windows are functions and sums recurse at their end, as the loops run.
-use Prim.Native.Nat.{ℕ, zero, suc, _+_, _-_, _*_, _%_, _^_}
-use mathlib.Core.List.{List, [], _∷_, _++_}
-use lib.ListN.{length, getD, replicate}
+use Prim.Native.Nat.{ℕ, zero, suc, _+_, _*_, _%_, _^_}
+use mathlib.Core.List.{List}
+use lib.ListN.{length, getD}
 use lib.Bits.{bitXor}
 use lib.Dec.{leb, ltb}
 use Rattle.codes.specs.declared.Symbol.{Symbol}
 use Rattle.codes.specs.declared.Nearest.{Nearest}
 use Rattle.codes.specs.Numbers.{DONE, BADMODE, RUNOUT, LOST}
 use Rattle.codes.specs.Chips.{pick}
-use Rattle.codes.specs.Radio.{Radio, known, radioOf}
+use Rattle.codes.specs.Radio.{known, radioOf}
 use Rattle.codes.specs.Symbol.{refused}
-
--- chips in a symbol of a mode's radio; 0 where it has none
-abbrev pub sizeAt : ℕ → ℕ
-sizeAt mode = pick (known mode) (radioOf mode .size) 0
-
--- words one after the other
-unfoldable pub joined : List (List ℕ) → List ℕ
-joined [] = []
-joined (w ∷ ws) = w ++ joined ws
-
--- 512 numbers: the radio's words one after the other, then zeros
-unfoldable pub tableOf : Radio → List ℕ
-tableOf r = joined (r .words) ++ replicate (512 - length (joined (r .words))) 0
-
--- the table of a mode's radio; zeros where it has none
-unfoldable pub tableAt : ℕ → List ℕ
-tableAt mode = pick (known mode) (tableOf (radioOf mode)) (replicate 512 0)
 
 -- the window of a list that begins at a place: its k-th element
 abbrev pub from : List ℕ → ℕ → ℕ → ℕ

@@ -13,6 +13,10 @@ use Rattle.codes.specs.Radio.{Radio, word, known, radioOf}
 abbrev pub refused : ℕ → Symbol
 refused x = record { number = x; value = 0; distance = 0 }
 
+-- a word's value and its distance
+abbrev pub reads : ℕ → ℕ → Symbol
+reads v d = record { number = DONE; value = v; distance = d }
+
 -- word v is within the accepted distance of the chips
 unfoldable pub within : Radio → List ℕ → ℕ → Bool
 within r chips v = leb (distance chips (word r v)) (r .limit)
@@ -22,10 +26,10 @@ unfoldable pub first : (ℕ → Bool) → ℕ → ℕ → ℕ
 first p i zero = i
 first p i (suc k) = pick (p i) i (first p (suc i) k)
 
--- value v and its distance, where v is a word's number
+-- value v at its distance, where v is a word's number
 unfoldable pub valued : Radio → List ℕ → ℕ → Symbol
 valued r chips v =
-    pick (ltb v (length (r .words))) (record { number = DONE; value = v; distance = distance chips (word r v) }) (refused LOST)
+    pick (ltb v (length (r .words))) (reads v (distance chips (word r v))) (refused LOST)
 
 -- 2. A byte above 1 among the symbol's chips: 5.
 -- 3. No code word within the accepted distance: 6. Otherwise the symbol's value is that of the one word within it.

@@ -1,13 +1,15 @@
 // The radios' code words and the reading of one symbol within a distance. One loop over words around a loop over chips serves
-// every radio; that the nearest word within the limit is the one word within it is a law over word length, number of words
-// and limit (proofs/Unique.antt), and each radio only instantiates it.
+// every radio. That at most one word lies within the limit is a law over word length, number of words and limit
+// (proofs/Unique.antt), so the nearest word, where it is within the limit, is that one (proofs/Equal.antt). Each radio only
+// instantiates it.
 ghost use mathlib.Core.Path.{_≡_};
 ghost use Prim.Native.Nat.{_+_, _*_, _≤_, _<_};
 ghost use lib.ListN.{length, take, drop};
 ghost use lib.Dec.{ltb};
 ghost use Rattle.codes.specs.Chips.{bad};
 ghost use Rattle.codes.specs.Symbol.{refused, symbolAt};
-ghost use Rattle.codes.specs.Matching.{sizeAt, sumTo, nearestOf, judged, matchIn, matchedAt};
+ghost use Rattle.codes.specs.Lent.{sizeAt};
+ghost use Rattle.codes.specs.Matching.{sumTo, nearestOf, judged, matchIn, matchedAt};
 
 mod tables;
 

@@ -1,8 +1,8 @@
 // The code words, chip by chip, and the table that readers and writers of many symbols lend: a constant array is built anew at
-// each use, so a caller copies it once. The rule of the words stands in specs/Radio.antt; that these numbers follow it is
-// one test that the checker computes (proofs/tables/table/Proof.antt, proofs/Rule.antt).
+// each use, so a caller copies it once. The rule of the words stands in specs/Radio.antt; that all these numbers follow it is
+// one test that the checker computes (proofs/tables/table/Proof.antt), and a lemma carries it to each chip (proofs/Rule.antt).
 ghost use mathlib.Core.Path.{_≡_};
-ghost use Rattle.codes.specs.Matching.{tableAt, tableOf};
+ghost use Rattle.codes.specs.Lent.{tableAt, tableOf};
 ghost use Rattle.codes.specs.Radio.{bpsk};
 
 // The words of 868/915 BPSK, for 0 and for 1.

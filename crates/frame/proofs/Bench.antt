@@ -7,11 +7,10 @@ use native.Mathlib.Omega.{arith}
 use lib.ListN.{length, take, drop, replicate}
 use lib.Dec.{eqb}
 use borrow.Author.Tests.{eqb-true}
-use Rattle.codes.specs.declared.Symbol.{Symbol}
-use Rattle.codes.specs.Numbers.{DONE, LOST}
+use Rattle.codes.specs.Numbers.{LOST}
 use Rattle.codes.specs.Chips.{distance, bad}
 use Rattle.codes.specs.Radio.{word, bpsk, oqpsk, bpskWords, oqpskWord, oqpskWords, turnedWords, turns, turned, oddInverted}
-use Rattle.codes.specs.Symbol.{refused, within, first, valued, symbolOf}
+use Rattle.codes.specs.Symbol.{refused, reads, within, first, valued, symbolOf}
 use Rattle.codes.proofs.Tests.{every, each}
 use Rattle.frame.specs.Frame.{digits, raws, encode, symbols, frame}
 use Rattle.frame.proofs.Count.{bpsk-chips, oqpsk-chips}
@@ -21,10 +20,6 @@ abbrev pub inverted : ℕ → List ℕ → List ℕ
 inverted zero w = w
 inverted (suc k) [] = []
 inverted (suc k) (x ∷ w) = (1 - x) ∷ inverted k w
-
--- a symbol's value and distance
-abbrev pub reads : ℕ → ℕ → Symbol
-reads v d = record { number = DONE; value = v; distance = d }
 
 pub record BenchSheet : Type 0 where
   -- mode 1 words 0 and 9 differ in 12 chips

@@ -9,6 +9,8 @@ use lib.Pow.{pow-pos}
 use Rattle.codes.specs.Radio.{Radio, word, Sound, bpsk, oqpsk}
 use Rattle.codes.proofs.Tests.{by-test}
 use Rattle.codes.proofs.Facts.{sound-bpsk, sound-oqpsk}
+use Rattle.frame.specs.Putting.{octetChips}
+use Rattle.frame.proofs.Chain.{encode-long}
 use Rattle.frame.specs.Frame.{octets, perOctet, digits, rawOf, raws, sent, encode, symbols, chipsOf, frame}
 
 abbrev pub Below : ℕ → List ℕ → Type 0
@@ -41,15 +43,10 @@ module _ (r : Radio) where
   raws-below [] = tt
   raws-below (x ∷ xs) = below-append (2 ^ r .bits) (rawOf r x) (raws r xs) (digits-below (perOctet r) (2 ^ r .bits) x (pow-pos (r .bits))) (raws-below xs)
 
-  pub encode-long : (last : ℕ) (bs : List ℕ) → length (encode r last bs) ≡ length bs
-  unfolding encode
-  encode-long last [] = refl
-  encode-long last (b ∷ bs) = ap suc (encode-long (sent r last b) bs)
-
   -- symbols of a frame
   pub symbols-long : (report : List ℕ) → length (symbols r report) ≡ (6 + length report) * perOctet r
   unfolding symbols
-  symbols-long report = encode-long 0 (raws r (octets report)) ∙ raws-long (octets report) ∙ ap (λ (n : ℕ). n * perOctet r) (omega arith)
+  symbols-long report = encode-long r 0 (raws r (octets report)) ∙ raws-long (octets report) ∙ ap (λ (n : ℕ). n * perOctet r) (omega arith)
 
 module _ (r : Radio) (S : Sound r) where
   pub sent-below : (last b : ℕ) → b < 2 ^ r .bits → sent r last b < 2 ^ r .bits
@@ -70,13 +67,13 @@ module _ (r : Radio) (S : Sound r) where
       omega (arith, length-append (word r v) (chipsOf r vs), word-long v (p .0), chips-long vs (p .1), suc-mul (length vs) (r .size))
 
   -- chips of an octet
-  pub octet-long : (last x : ℕ) → length (chipsOf r (encode r last (rawOf r x))) ≡ perOctet r * r .size
+  pub octet-long : (last x : ℕ) → length (chipsOf r (encode r last (rawOf r x))) ≡ octetChips r
   octet-long last x =
       chips-long (encode r last (rawOf r x)) (encode-below last (rawOf r x) (digits-below (perOctet r) (2 ^ r .bits) x (pow-pos (r .bits))))
       ∙ ap (λ (n : ℕ). n * r .size) (encode-long r last (rawOf r x) ∙ digits-long (perOctet r) (2 ^ r .bits) x)
 
   -- chips of a frame
-  pub frame-long : (report : List ℕ) → length (frame r report) ≡ (6 + length report) * (perOctet r * r .size)
+  pub frame-long : (report : List ℕ) → length (frame r report) ≡ (6 + length report) * octetChips r
   unfolding frame symbols
   frame-long report =
       chips-long (symbols r report) (encode-below 0 (raws r (octets report)) (raws-below r (octets report)))

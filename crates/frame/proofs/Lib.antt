@@ -1,5 +1,6 @@
 -- Laws of the frame and of writing it, leaves first, and the bench sheet.
 pub mod Modes
+pub mod Chain
 pub mod Octets
 pub mod Over
 pub mod Words

@@ -5,7 +5,8 @@ use Prim.Native.Nat.{ℕ, _+_, _≤_}
 use native.Mathlib.Nat.{add-zero, zero-add}
 use native.Mathlib.Omega.{arith}
 use lib.ListN.{length, take, drop, length-append, take-append-drop}
-use lib.Seq.{paste, length-take-le, take-at, drop-drop, drop-append-add}
+use lib.Seq.{paste, length-take-le, take-at, drop-drop}
+use Rattle.codes.proofs.Rows.{drop-past}
 use Rattle.frame.specs.Putting.{over}
 
 -- nothing written
@@ -22,9 +23,6 @@ over-front d new = rw zero-add
 pub over-paste : (d : List ℕ) (at : ℕ) (s : List ℕ) (n : ℕ) → n ≤ length s → paste d at s n ≡ over d at (take n s)
 unfolding over
 over-paste d at s n h = rw (length-take-le n s h) (simp append-assoc)
-
-drop-past : (p r : List ℕ) (n m : ℕ) → length p ≡ n → drop (n + m) (p ++ r) ≡ drop m r
-drop-past p r n m e = rw (← e) (drop-append-add p r m)
 
 -- two in a row, the second where the first, of k elements, ends
 pub over-over : (d : List ℕ) (at k : ℕ) (a b : List ℕ) → length a ≡ k → at + k ≤ length d → over (over d at a) (at + k) b ≡ over d at (a ++ b)

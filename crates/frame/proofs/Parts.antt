@@ -1,14 +1,14 @@
 -- Which symbols are which part of the frame (document 01's table of symbol numbers): the raw symbols from each number on are
--- those of that part's octets, and symbol k is what is sent for raw symbol k. Assumes nothing.
+-- those of that part's octets. What is sent for them is Chain.antt's. Assumes nothing.
 use mathlib.Core.Path.{_≡_, refl, sym, ap, _∙_}
 use mathlib.Core.List.{List, [], _∷_, _++_, append-assoc}
-use Prim.Native.Nat.{ℕ, zero, suc, _+_, _*_, _^_, _<_}
+use Prim.Native.Nat.{ℕ, _+_, _*_, _^_}
 use native.Mathlib.Nat.{add-mul, mul-comm}
 use native.Mathlib.Omega.{arith}
-use lib.ListN.{length, getD, take, drop}
+use lib.ListN.{length, take, drop}
 use lib.Seq.{take-at, drop-at}
 use Rattle.codes.specs.Radio.{Radio, bpsk, oqpsk}
-use Rattle.frame.specs.Frame.{startOctet, octets, perOctet, rawOf, raws, sent, encode, symbols}
+use Rattle.frame.specs.Frame.{startOctet, octets, perOctet, rawOf, raws, symbols}
 use Rattle.frame.proofs.Count.{digits-long, raws-long, symbols-long}
 
 -- the preamble is before symbol p, the start octet before s, the length octet before l, and the report after it
@@ -35,18 +35,6 @@ module _ (r : Radio) where
   one : (x : ℕ) (ys : List ℕ) → take (perOctet r) (raws r (x ∷ ys)) ≡ rawOf r x
   unfolding raws
   one x ys = take-at (rawOf r x) (raws r ys) (perOctet r) (digits-long (perOctet r) (2 ^ r .bits) x)
-
-  -- symbol j is what is sent for raw symbol j after the symbol before it, the first after `last`
-  pub sent-first : (last b : ℕ) (bs : List ℕ) → getD (encode r last (b ∷ bs)) 0 0 ≡ sent r last b
-  unfolding encode
-  sent-first last b bs = refl
-
-  pub sent-next : (last : ℕ) (bs : List ℕ) (j : ℕ) → suc j < length bs → getD (encode r last bs) (suc j) 0 ≡ sent r (getD (encode r last bs) j 0) (getD bs (suc j) 0)
-  unfolding encode
-  sent-next last [] j h = absurd (omega arith)
-  sent-next last (b ∷ []) j h = absurd (omega arith)
-  sent-next last (b ∷ c ∷ bs) zero h = refl
-  sent-next last (b ∷ c ∷ bs) (suc j) h = sent-next (sent r last b) (c ∷ bs) j (omega arith)
 
   pub parts : (p s l k : ℕ) → 4 * perOctet r ≡ p → 5 * perOctet r ≡ s → 6 * perOctet r ≡ l → perOctet r ≡ k → Parts r p s l k
   parts p s l k ep es el ek =

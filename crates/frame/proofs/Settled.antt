@@ -1,16 +1,22 @@
--- The writer's promise settles its answer and every byte of the lent buffer: two outcomes that satisfy it are equal.
--- Assumes nothing.
+-- The writer's promise settles its answer and every byte of the lent buffer at exit: two outcomes that satisfy it are equal. It
+-- speaks of the writer's own contract, as `Settles` does. Assumes nothing.
 use mathlib.Core.Path.{_≡_, ap}
 use mathlib.Core.List.{List}
 use Prim.Native.Nat.{ℕ}
+use contract.Lifetimes.{Lfts}
+use denote.Ref.{now}
+use denote.Triple.Clauses.{AtExit}
+use borrow.Fn.Kinds.{Dens, resT, endedOf}
 use Rattle.codes.proofs.Settled.{settled}
-use Rattle.frame.specs.declared.Written.{Written}
 use Rattle.frame.specs.Outcome.{Outcome, outcome}
-use Rattle.frame.specs.Write.{written}
+use Rattle.frame.proofs.write.Kinds as write-kinds
+use Rattle.frame.proofs.write.Reads as write-promise
 
 -- an outcome is an answer and a buffer
 pub both : {A : Type 0} (p q : A) (b c : List ℕ) → outcome p b ≡ outcome q c → (p ≡ q) × (b ≡ c)
 both {A} p q b c e = (ap (λ (o : Outcome A). o .answer) e, ap (λ (o : Outcome A). o .buffer) e)
 
-pub write-settled : (mode : ℕ) (report buffer : List ℕ) (p q : Written) (b c : List ℕ) → outcome p b ≡ written mode report buffer → outcome q c ≡ written mode report buffer → (p ≡ q) × (b ≡ c)
-write-settled mode report buffer p q b c e f = both p q b c (settled (outcome p b) (outcome q c) e f)
+-- `s .1 .1 .0` is the third parameter, the buffer, at exit
+pub write-settled : (κs : Lfts 2) (a : Dens κs write-kinds.ps) (p q : resT write-kinds.r κs .Denot) (s t : AtExit (endedOf 2 write-kinds.ps write-kinds.r) κs)
+    → write-promise.Post κs a p s → write-promise.Post κs a q t → (p ≡ q) × (now (s .1 .1 .0) ≡ now (t .1 .1 .0))
+write-settled κs a p q s t e f = both p q _ _ (settled _ _ e f)

@@ -6,28 +6,21 @@ use Prim.Native.Nat.{ℕ, _+_, _*_, _≤_, _<_}
 use native.Mathlib.Omega.{arith}
 use lib.ListN.{length, drop, length-drop}
 use lib.Seq.{paste}
-use borrow.Author.Tests.{lt-ltb}
 use Rattle.codes.specs.Radio.{radioOf, word, known}
-use Rattle.codes.specs.Matching.{sizeAt, tableAt}
+use Rattle.codes.specs.Lent.{tableAt}
 use Rattle.codes.proofs.Lent.{table-row, table-long, row-fits}
 use Rattle.frame.specs.Putting.{over}
 use Rattle.frame.proofs.Over.{over-paste}
 
-pub known-low : (mode : ℕ) → mode ≤ 1 → known mode ≡ true
-known-low mode h = lt-ltb mode 2 (omega arith)
-
-pub size-low : (mode : ℕ) → mode ≤ 1 → sizeAt mode ≡ radioOf mode .size
-size-low mode m = rw (known-low mode m)
-
 -- at the size that the code holds
-module _ (mode : ℕ) (m : mode ≤ 1) (words : List ℕ) (t : words ≡ tableAt mode) (v : ℕ) (h : v < length (radioOf mode .words)) (size : ℕ) (e : radioOf mode .size ≡ size) where
+module _ (mode : ℕ) (m : known mode ≡ true) (words : List ℕ) (t : words ≡ tableAt mode) (v : ℕ) (h : v < length (radioOf mode .words)) (size : ℕ) (e : radioOf mode .size ≡ size) where
   in-table : v * size + size ≤ 512
   in-table = rw e at (row-fits mode v h)
 
   pub word-put : (d : List ℕ) (at : ℕ) → paste d at (drop (v * size) words) size ≡ over d at (word (radioOf mode) v)
   word-put d at =
       let l : size ≤ length (drop (v * size) (tableAt mode)) = simp length-drop (omega (arith, in-table, table-long mode)) in
-      rw t (over-paste d at (drop (v * size) (tableAt mode)) size l ∙ ap (over d at) (rw e at (table-row mode (known-low mode m) v h)))
+      rw t (over-paste d at (drop (v * size) (tableAt mode)) size l ∙ ap (over d at) (rw e at (table-row mode m v h)))
 
   pub word-fits : (at n : ℕ) → at + radioOf mode .size ≤ n → (v * size + size ≤ 512) × (length words ≡ 512) × (at + size ≤ n)
   word-fits at n l = (in-table, rw t (table-long mode), rw e at l)

@@ -11,11 +11,11 @@ use Rattle.frame.specs.Outcome.{Outcome, outcome}
 use Rattle.frame.specs.Frame.{frame}
 
 -- Refused: chip count 0, buffer unchanged.
-abbrev pub refusal : ℕ → Written
-refusal x = record { number = x; chips = 0 }
+abbrev pub refused : ℕ → Written
+refused x = record { number = x; chips = 0 }
 
 abbrev pub unwritten : ℕ → List ℕ → Outcome Written
-unwritten x buffer = outcome (refusal x) buffer
+unwritten x buffer = outcome (refused x) buffer
 
 -- Done: it gives the chip count, the first chips of the buffer are the frame, and later bytes keep their values.
 abbrev pub wrote : List ℕ → List ℕ → Outcome Written

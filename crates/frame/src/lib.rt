@@ -1,14 +1,16 @@
-// A report's frame, and the writer that makes it: octets to symbols, symbols to chips. Every loop's invariant says "what is
-// still to be written over the buffer is the frame", so each turn is one law about writing over a list.
+// A report's frame, and the writer that makes it: octets to symbols, symbols to chips. The loops over octets and over symbols keep
+// that what is still to be written over the buffer is what they set out to write, so each turn is one law about writing over
+// a list (proofs/Turns.antt).
 ghost use mathlib.Core.Path.{_≡_};
+ghost use mathlib.Core.Bool.{true};
 ghost use Prim.Native.Nat.{_+_, _*_, _/_, _%_, _^_, _≤_, _<_};
 ghost use lib.ListN.{length, getD, drop};
 ghost use lib.Seq.{paste};
-ghost use Rattle.codes.specs.Radio.{radioOf, word};
-ghost use Rattle.codes.specs.Matching.{tableAt};
+ghost use Rattle.codes.specs.Radio.{known, radioOf, word};
+ghost use Rattle.codes.specs.Lent.{tableAt};
 ghost use Rattle.frame.specs.Outcome.{outcome};
 ghost use Rattle.frame.specs.Frame.{octets, perOctet, rawOf, sent, encode, symbols, chipsOf};
-ghost use Rattle.frame.specs.Write.{refusal, written};
+ghost use Rattle.frame.specs.Write.{refused, written};
 ghost use Rattle.frame.specs.Putting.{over, lastSent, octetChips};
 
 // What the writer gives back: 0 and the chip count, or a refusal and 0.
@@ -22,15 +24,15 @@ pub struct Written {
 pub fn write(mode: u32, report: &[u8], chips: &mut [u8]) -> Written
     ensures { λ r. ⌜ outcome r (now (chips .exit)) ≡ written mode (now (report .entry)) (now (chips .entry)) ⌝ }
 {
-    if 1 < mode {
-        return unwritten(codes::BADMODE);
+    if codes::size_of(mode) == 0 {
+        return refusal(codes::BADMODE);
     }
     if 127 < report.len() {
-        return unwritten(codes::TOOLONG);
+        return refusal(codes::TOOLONG);
     }
     let count = (6 + report.len()) * octet_chips(mode);
     if chips.len() < count {
-        return unwritten(codes::NOROOM);
+        return refusal(codes::NOROOM);
     }
     put_frame(mode, report, chips);
     Written {
@@ -39,15 +41,16 @@ pub fn write(mode: u32, report: &[u8], chips: &mut [u8]) -> Written
     }
 }
 
-fn unwritten(number: u32) -> Written
-    ensures { λ r. ⌜ r ≡ refusal number ⌝ }
+// Refused: chip count 0.
+fn refusal(number: u32) -> Written
+    ensures { λ r. ⌜ r ≡ refused number ⌝ }
 {
     Written { number, chips: 0 }
 }
 
 // Every octet of the frame in turn. The chain runs through all of them.
 fn put_frame(mode: u32, report: &[u8], out: &mut [u8])
-    requires { ⌜ (mode ≤ 1) × (length (now report) ≤ 127) × ((6 + length (now report)) * octetChips (radioOf mode) ≤ length (now out)) ⌝ }
+    requires { ⌜ (known mode ≡ true) × (length (now report) ≤ 127) × ((6 + length (now report)) * octetChips (radioOf mode) ≤ length (now out)) ⌝ }
     ensures { λ _. ⌜ now (out .exit) ≡ over (now (out .entry)) 0 (chipsOf (radioOf mode) (symbols (radioOf mode) (now (report .entry)))) ⌝ }
 {
     let words = codes::table(mode);
@@ -82,7 +85,7 @@ fn octet_at(report: &[u8], j: usize) -> u8
 
 // The symbols of one octet, its lowest bits first; the last of them comes back.
 fn put_octet(mode: u32, words: &[u8; 512], last: u8, octet: u8, out: &mut [u8], at: usize) -> u8
-    requires { ⌜ (mode ≤ 1) × (now words ≡ tableAt mode) × (last < 2 ^ radioOf mode .bits) × (at + octetChips (radioOf mode) ≤ length (now out)) ⌝ }
+    requires { ⌜ (known mode ≡ true) × (now words ≡ tableAt mode) × (last < 2 ^ radioOf mode .bits) × (at + octetChips (radioOf mode) ≤ length (now out)) ⌝ }
     ensures { λ r. ⌜ r ≡ lastSent (radioOf mode) last (rawOf (radioOf mode) octet) ⌝ }
     ensures { λ _. ⌜ now (out .exit) ≡ over (now (out .entry)) at (chipsOf (radioOf mode) (encode (radioOf mode) last (rawOf (radioOf mode) octet))) ⌝ }
 {
@@ -103,7 +106,7 @@ fn put_octet(mode: u32, words: &[u8; 512], last: u8, octet: u8, out: &mut [u8], 
 }
 
 fn put_symbol(mode: u32, words: &[u8; 512], v: u8, out: &mut [u8], at: usize)
-    requires { ⌜ (mode ≤ 1) × (now words ≡ tableAt mode) × (v < length (radioOf mode .words)) × (at + radioOf mode .size ≤ length (now out)) ⌝ }
+    requires { ⌜ (known mode ≡ true) × (now words ≡ tableAt mode) × (v < length (radioOf mode .words)) × (at + radioOf mode .size ≤ length (now out)) ⌝ }
     ensures { λ _. ⌜ now (out .exit) ≡ over (now (out .entry)) at (word (radioOf mode) v) ⌝ }
 {
     let row = v as usize;
@@ -128,7 +131,7 @@ fn put_word(words: &[u8; 512], row: usize, size: usize, out: &mut [u8], at: usiz
 
 // The symbol sent for a raw one after the symbol `last`.
 fn sent_symbol(mode: u32, last: u8, raw: u8) -> u8
-    requires { ⌜ (mode ≤ 1) × (last < 16) × (raw < 16) ⌝ }
+    requires { ⌜ (known mode ≡ true) × (last < 16) × (raw < 16) ⌝ }
     ensures { λ r. ⌜ r ≡ sent (radioOf mode) last raw ⌝ }
 {
     if mode == 0 { (last + raw) % 2 } else { raw }
@@ -136,7 +139,7 @@ fn sent_symbol(mode: u32, last: u8, raw: u8) -> u8
 
 // The raw symbol in the lowest bits.
 fn low_bits(mode: u32, x: u8) -> u8
-    requires { ⌜ mode ≤ 1 ⌝ }
+    requires { ⌜ known mode ≡ true ⌝ }
     ensures { λ r. ⌜ r ≡ x % 2 ^ radioOf mode .bits ⌝ }
 {
     if mode == 0 { x % 2 } else { x % 16 }
@@ -144,21 +147,21 @@ fn low_bits(mode: u32, x: u8) -> u8
 
 // What is left above it.
 fn high_bits(mode: u32, x: u8) -> u8
-    requires { ⌜ mode ≤ 1 ⌝ }
+    requires { ⌜ known mode ≡ true ⌝ }
     ensures { λ r. ⌜ r ≡ x / 2 ^ radioOf mode .bits ⌝ }
 {
     if mode == 0 { x / 2 } else { x / 16 }
 }
 
 fn per_octet(mode: u32) -> usize
-    requires { ⌜ mode ≤ 1 ⌝ }
+    requires { ⌜ known mode ≡ true ⌝ }
     ensures { λ r. ⌜ r ≡ perOctet (radioOf mode) ⌝ }
 {
     if mode == 0 { 8 } else { 2 }
 }
 
 fn octet_chips(mode: u32) -> usize
-    requires { ⌜ mode ≤ 1 ⌝ }
+    requires { ⌜ known mode ≡ true ⌝ }
     ensures { λ r. ⌜ r ≡ octetChips (radioOf mode) ⌝ }
 {
     if mode == 0 { 120 } else { 64 }

@@ -1,27 +1,69 @@
 // A report to a raw capture: reads a report from standard input and writes its frame, a byte a chip, to standard output. The mode
-// is the argument. On a refusal it writes nothing there, and the number and its meaning, one line, to standard error.
+// is the one argument. On a refusal it writes nothing there, and the number and its meaning, one line, to standard error.
 ghost use mathlib.Core.Path.{_≡_};
-ghost use Prim.Native.Nat.{min};
+ghost use Prim.Native.Nat.{min, _≤_};
 ghost use lib.ListN.{length};
 ghost use Rattle.send.specs.Mode.{none, modeOf};
 use libc::STDERR_FILENO;
 use libc::STDIN_FILENO;
 use libc::STDOUT_FILENO;
 
+// How many octets came, and whether a read failed before the input ended.
+struct Input {
+    octets: usize,
+    failed: bool,
+}
+
 fn main() {
-    let mut text = [0u8; 64];
-    let length = os::arg(1, &mut text);
-    let mode = mode_of(&text[..length]);
+    let mode = asked_mode();
+    // Told before anything is read, so that nobody types a report in vain.
+    if codes::size_of(mode) == 0 {
+        complain(codes::BADMODE);
+        return;
+    }
     // One octet more than a report may have, so that a longer one is refused and not cut.
     let mut report = [0u8; 128];
-    let octets = io::read_full(STDIN_FILENO, &mut report);
+    let input = read_all(&mut report);
+    if input.failed {
+        os::fail(b"standard input");
+        return;
+    }
+    let octets = input.octets;
     let mut chips = buffer();
     let written = frame::write(mode, &report[..octets], &mut chips);
-    if written.number == codes::DONE {
-        let count = written.chips as usize;
-        io::write_all(STDOUT_FILENO, &chips[..count]);
-    } else {
+    if written.number != codes::DONE {
         complain(written.number);
+        return;
+    }
+    let count = written.chips as usize;
+    if !io::write_all(STDOUT_FILENO, &chips[..count]) {
+        os::fail(b"standard output");
+    }
+}
+
+// Reads until the buffer is full, the input ends or a read fails. (`io::read_full` does not tell the last two apart, and a report
+// cut short by a failed read must not be sent.)
+fn read_all(buffer: &mut [u8]) -> Input
+    ensures { λ r. ⌜ r .octets ≤ length (now (buffer .exit)) ⌝ }
+{
+    let mut octets: usize = 0;
+    while octets < buffer.len() {
+        let got = libc::read(STDIN_FILENO, &mut buffer[octets..]);
+        if got < 0 {
+            return Input {
+                octets,
+                failed: true,
+            };
+        }
+        let more = io::count(got, &buffer[octets..]);
+        if more == 0 {
+            break;
+        }
+        octets += more;
+    }
+    Input {
+        octets,
+        failed: false,
     }
 }
 
@@ -32,7 +74,17 @@ fn buffer() -> [u8; 15960]
     [0; 15960]
 }
 
-// The mode that an argument names; a missing one, one that is no number or one above 32 bits is a mode that no radio has.
+// The mode that the one argument names. With none, or with more than one, there is none.
+fn asked_mode() -> u32 {
+    if os::arg_count() != 2 {
+        return u32::MAX;
+    }
+    let mut text = [0u8; 64];
+    let length = os::arg(1, &mut text);
+    mode_of(&text[..length])
+}
+
+// A missing argument, one that is no number and one above 32 bits are a mode that no radio has.
 fn mode_of(text: &[u8]) -> u32
     ensures { λ r. ⌜ r ≡ modeOf (now (text .entry)) ⌝ }
 {

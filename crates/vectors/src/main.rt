@@ -1,5 +1,5 @@
 // The cases of document 01 that are run and compared only. Each line is compared with the file stdout, whose chip strings were
-// typed from tables 21 and 24 of the draft standard and not made by this code.
+// made of tables 21 and 24 of the draft standard and not by this code.
 ghost use mathlib.Core.Path.{_≡_};
 ghost use lib.ListN.{length};
 use libc::STDOUT_FILENO;
@@ -18,8 +18,10 @@ fn main() {
     write_line(4294967295, &report, 5, &mut chips, 15960);
     write_line(0, &report, 5, &mut chips, 15960);
     write_line(1, &report, 5, &mut chips, 15960);
-    empty_frame(0, &mut chips);
-    empty_frame(1, &mut chips);
+    whole_frame(0, b"", &mut chips);
+    whole_frame(1, b"", &mut chips);
+    whole_frame(0, b"rope 12 wet", &mut chips);
+    whole_frame(1, b"rope 12 wet", &mut chips);
 }
 
 // Room for the longest frame.
@@ -50,10 +52,9 @@ fn number(n: u64, after: &[u8]) {
     io::write_all(STDOUT_FILENO, after);
 }
 
-// The frame of an empty report, a digit a chip.
-fn empty_frame(mode: u32, chips: &mut [u8]) {
-    let report = [0u8; 0];
-    let written = frame::write(mode, &report, chips);
+// The whole frame of a report, a digit a chip.
+fn whole_frame(mode: u32, report: &[u8], chips: &mut [u8]) {
+    let written = frame::write(mode, report, chips);
     let count = written.chips as usize;
     digits(&chips[..count]);
     io::write_all(STDOUT_FILENO, b"\n");

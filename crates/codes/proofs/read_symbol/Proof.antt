@@ -2,7 +2,7 @@
 use mathlib.Core.Path.{sym, _∙_}
 use borrow.Author.Needs.{needs}
 use borrow.Author.Tests.{ltb-false, lt-ltb, le-ltb}
-use Rattle.codes.proofs.Equal.{no-radio, too-few, no-chip, matched-symbol}
+use Rattle.codes.proofs.Equal.{no-radio, too-few, no-chip, all-chips}
 use Rattle.codes.proofs.read_symbol.Statement.{statement}
 use Rattle.codes.proofs.read_symbol.Tie as tie
 
@@ -50,8 +50,7 @@ returns-4 c =
     let h = c .before .before .before .before in
     let o = h .before .before in
     c .matched .ensures
-    ∙ matched-symbol _ _ _ _ (o .before .before .size-of .ensures) (o .before .if1 .left) (ltb-false _ _ (sym (o .run-out .ensures) ∙ h .before .if2 .left))
-    _ (c .before .before .table .ensures) (sym (h .highest .ensures) ∙ le-ltb _ _ (c .before .before .before .if3 .left))
+    ∙ all-chips _ _ _ _ (o .before .before .size-of .ensures) (o .before .if1 .left) _ (c .before .before .table .ensures) (sym (h .highest .ensures) ∙ le-ltb _ _ (c .before .before .before .if3 .left))
 
 pub read-symbol-spec : {M : Type 1} → statement M
 read-symbol-spec =

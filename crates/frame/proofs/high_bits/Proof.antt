@@ -1,5 +1,5 @@
 -- `high_bits` meets its contract: a radio's number of bits a branch. Assumes nothing.
-use Rattle.frame.proofs.Modes.{second}
+use Rattle.codes.proofs.Modes.{second}
 use Rattle.frame.proofs.high_bits.Statement.{statement}
 use Rattle.frame.proofs.high_bits.Tie as tie
 

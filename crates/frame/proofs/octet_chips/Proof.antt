@@ -1,5 +1,5 @@
 -- `octet_chips` meets its contract: a radio's numbers a branch. Assumes nothing.
-use Rattle.frame.proofs.Modes.{second}
+use Rattle.codes.proofs.Modes.{second}
 use Rattle.frame.proofs.octet_chips.Statement.{statement}
 use Rattle.frame.proofs.octet_chips.Tie as tie
 

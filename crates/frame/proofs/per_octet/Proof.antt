@@ -1,5 +1,5 @@
 -- `per_octet` meets its contract: a radio's number of bits a branch. Assumes nothing.
-use Rattle.frame.proofs.Modes.{second}
+use Rattle.codes.proofs.Modes.{second}
 use Rattle.frame.proofs.per_octet.Statement.{statement}
 use Rattle.frame.proofs.per_octet.Tie as tie
 

@@ -7,7 +7,7 @@ use lib.Pow.{pow-pos}
 use Rattle.codes.specs.Radio.{radioOf}
 use Rattle.codes.proofs.Facts.{sound}
 use Rattle.frame.specs.Frame.{perOctet, sent}
-use Rattle.frame.proofs.Words.{size-low}
+use Rattle.codes.proofs.Modes.{size-known}
 use Rattle.frame.proofs.Modes.{few-values, few-symbols}
 use Rattle.frame.proofs.Turns.{OctetLeft, octet-starts, octet-ends, octet-room, octet-value, octet-turns}
 use Rattle.frame.proofs.put_octet.Statement.{statement}
@@ -59,7 +59,7 @@ add-p c =
     let l = c .before .before .before .before .before .before .before .before in
     let s = l .before .before .before .before in
     let h : l .loop .i < perOctet (radioOf (s .args .mode)) = rw (← l .before .per-octet .ensures) (c .before .before .before .before .before .before .before .loop-test .taken) in
-    omega (arith, octet-room (radioOf (s .args .mode)) _ _ _ _ _ _ _ _ _ (l .loop .inv) (s .pre .3) h, l .loop .inv .same, l .before .before .size-of .ensures, size-low (s .args .mode) (s .pre .0), s .good)
+    omega (arith, octet-room (radioOf (s .args .mode)) _ _ _ _ _ _ _ _ _ (l .loop .inv) (s .pre .3) h, l .loop .inv .same, l .before .before .size-of .ensures, size-known (s .args .mode) (s .pre .0), s .good)
 
 add-i : tie.Need-add-i Inv-loop μ-loop
 add-i c = let l = c .before .before .before .before .before .before .before .before in
@@ -76,7 +76,7 @@ loop-again c =
     let h : l .loop .i < perOctet r = rw (← l .before .per-octet .ensures) (c .before .before .before .before .before .before .before .loop-test .taken) in
     let e = c .before .before .before .before .before .sent-symbol .ensures ∙ ap (sent r (l .loop .v)) (c .before .before .before .before .before .before .low-bits .ensures) in
     octet-turns r _ _ _ _ _ _ _ _ _ (l .loop .inv) (s .pre .3) h (sound (s .args .mode)) _ _ e (c .high-bits .ensures) _ _
-    (c .before .before .before .put-symbol .kept .1 .1 .1 .0) (c .before .before .before .put-symbol .ensures) (l .before .before .size-of .ensures ∙ size-low (s .args .mode) (s .pre .0))
+    (c .before .before .before .put-symbol .kept .1 .1 .1 .0) (c .before .before .before .put-symbol .ensures) (l .before .before .size-of .ensures ∙ size-known (s .args .mode) (s .pre .0))
 
 same-length : tie.Need-same-length Inv-loop μ-loop
 same-length c = c .before .loop .inv .same

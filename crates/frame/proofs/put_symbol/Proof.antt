@@ -1,7 +1,7 @@
 -- `put_symbol` meets its contract: the row that it copies is the symbol's word. Assumes nothing.
 use mathlib.Core.Path.{_∙_}
 use borrow.Author.Needs.{needs}
-use Rattle.frame.proofs.Modes.{second}
+use Rattle.codes.proofs.Modes.{second}
 use Rattle.frame.proofs.Words.{word-put, word-fits}
 use Rattle.frame.proofs.put_symbol.Statement.{statement}
 use Rattle.frame.proofs.put_symbol.Tie as tie

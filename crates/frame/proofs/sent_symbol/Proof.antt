@@ -1,5 +1,5 @@
 -- `sent_symbol` meets its contract: a radio a branch, chained or not. Assumes nothing.
-use Rattle.frame.proofs.Modes.{second}
+use Rattle.codes.proofs.Modes.{second}
 use borrow.Author.Needs.{needs}
 use Rattle.frame.proofs.sent_symbol.Statement.{statement}
 use Rattle.frame.proofs.sent_symbol.Tie as tie

@@ -1,4 +1,5 @@
--- `main` is safe: the chips that the writer counts are in the buffer (`chips-fit`). Assumes nothing.
+-- `main` is safe: the octets that were read are in their buffer, and the chips that the writer counts in theirs (`chips-fit`).
+-- Assumes nothing.
 use mathlib.Core.Path.{sym}
 use lib.Seq.{length-take-le}
 use borrow.Author.Needs.{needs}
@@ -6,26 +7,32 @@ use Rattle.frame.proofs.Writer.{chips-fit}
 use Rattle.send.proofs.main.Statement.{statement}
 use Rattle.send.proofs.main.Tie as tie
 
-slice-aggregate-arg : tie.Need-slice-aggregate-arg
-slice-aggregate-arg c = search needs
+asked-mode-requires : tie.Need-asked-mode-requires
+asked-mode-requires c κs = search needs
 
-arg-requires : tie.Need-arg-requires
-arg-requires c κs = search needs
+size-of-requires : tie.Need-size-of-requires
+size-of-requires c κs = search needs
 
-array-share-prefix-text : tie.Need-array-share-prefix-text
-array-share-prefix-text c = search needs
+complain-requires : tie.Need-complain-requires
+complain-requires c κs = search needs
 
-slice-aggregate-mode-of : tie.Need-slice-aggregate-mode-of
-slice-aggregate-mode-of c = search needs
+returns : tie.Need-returns
+returns c = search needs
 
-mode-of-requires : tie.Need-mode-of-requires
-mode-of-requires c κs = search needs
+slice-aggregate-read-all : tie.Need-slice-aggregate-read-all
+slice-aggregate-read-all c = search needs
 
-slice-aggregate-read-full : tie.Need-slice-aggregate-read-full
-slice-aggregate-read-full c = search needs
+read-all-requires : tie.Need-read-all-requires
+read-all-requires c κs = search needs
 
-read-full-requires : tie.Need-read-full-requires
-read-full-requires c κs = search needs
+slice-aggregate-fail : tie.Need-slice-aggregate-fail
+slice-aggregate-fail c = search needs
+
+fail-requires : tie.Need-fail-requires
+fail-requires c κs = search needs
+
+returns-2 : tie.Need-returns-2
+returns-2 c = search needs
 
 buffer-requires : tie.Need-buffer-requires
 buffer-requires c κs = search needs
@@ -34,13 +41,19 @@ array-share-prefix-report : tie.Need-array-share-prefix-report
 array-share-prefix-report c = search needs
 
 slice-aggregate-write : tie.Need-slice-aggregate-write
-slice-aggregate-write c = search needs
+slice-aggregate-write c = sym (length-take-le _ _ (c .before .before .before .before .read-all .ensures))
 
 slice-aggregate-write-2 : tie.Need-slice-aggregate-write-2
 slice-aggregate-write-2 c = search needs
 
 write-requires : tie.Need-write-requires
 write-requires c κs = search needs
+
+complain-requires-2 : tie.Need-complain-requires-2
+complain-requires-2 c κs = search needs
+
+returns-3 : tie.Need-returns-3
+returns-3 c = search needs
 
 cast-count : tie.Need-cast-count
 cast-count c = search needs
@@ -56,35 +69,43 @@ slice-aggregate-write-all c = let w = c .before .before .before .before .before 
 write-all-requires : tie.Need-write-all-requires
 write-all-requires c κs = search needs
 
-complain-requires : tie.Need-complain-requires
-complain-requires c κs = search needs
+slice-aggregate-fail-2 : tie.Need-slice-aggregate-fail-2
+slice-aggregate-fail-2 c = search needs
 
-returns : tie.Need-returns
-returns c = search needs
+fail-requires-2 : tie.Need-fail-requires-2
+fail-requires-2 c κs = search needs
 
-returns-2 : tie.Need-returns-2
-returns-2 c = search needs
+returns-4 : tie.Need-returns-4
+returns-4 c = search needs
+
+returns-5 : tie.Need-returns-5
+returns-5 c = search needs
 
 pub main-spec : {M : Type 1} → statement M
 main-spec =
     tie.close
     (tie.spec
-    slice-aggregate-arg
-    arg-requires
-    array-share-prefix-text
-    slice-aggregate-mode-of
-    mode-of-requires
-    slice-aggregate-read-full
-    read-full-requires
+    asked-mode-requires
+    size-of-requires
+    complain-requires
+    returns
+    slice-aggregate-read-all
+    read-all-requires
+    slice-aggregate-fail
+    fail-requires
+    returns-2
     buffer-requires
     array-share-prefix-report
     slice-aggregate-write
     slice-aggregate-write-2
     write-requires
+    complain-requires-2
+    returns-3
     cast-count
     array-share-prefix-chips
     slice-aggregate-write-all
     write-all-requires
-    complain-requires
-    returns
-    returns-2)
+    slice-aggregate-fail-2
+    fail-requires-2
+    returns-4
+    returns-5)

@@ -5,7 +5,7 @@ use native.Mathlib.Omega.{arith}
 use lib.ListN.{replicate}
 use lib.Seq.{paste}
 use Rattle.codes.specs.Radio.{bpskWords}
-use Rattle.codes.specs.Matching.{joined, tableOf}
+use Rattle.codes.specs.Lent.{joined, tableOf}
 use Rattle.codes.proofs.Copy.{copy-turn}
 use borrow.Author.Needs.{needs}
 use Rattle.codes.proofs.tables.bpsk_table.Statement.{statement}

@@ -1,8 +1,11 @@
 -- `table` meets its contract: the constant numbers are the words that the rule makes. Assumes nothing.
+use mathlib.Core.Path.{refl}
 use borrow.Author.Needs.{needs}
-use Rattle.codes.specs.Radio.{oqpskWord, oqpskWords, turnedWords, turns, turned, oddInverted}
-use Rattle.codes.specs.Matching.{tableAt, tableOf, joined}
+use Rattle.codes.specs.Radio.{oqpskWord}
+use Rattle.codes.specs.Lent.{tableAt}
+use Rattle.codes.proofs.Tests.{every}
 use Rattle.codes.proofs.Modes.{unknown}
+use Rattle.codes.proofs.Rule.{ruled-table}
 use Rattle.codes.proofs.tables.table.Statement.{statement}
 use Rattle.codes.proofs.tables.table.Tie as tie
 
@@ -13,10 +16,10 @@ returns : tie.Need-returns
 unfolding tableAt
 returns c = rw (c .before .if1 .taken) (c .bpsk-table .ensures)
 
--- the turning and inverting rule over all 512 numbers, computed
+-- the test of the turning and inverting rule, computed over the 512 numbers of the array
 returns-2 : tie.Need-returns-2
-unfolding tableAt tableOf joined oqpskWords turnedWords turns turned oddInverted oqpskWord
-returns-2 c = rw (c .if2 .taken)
+unfolding every oqpskWord
+returns-2 c = rw (c .if2 .taken) (ruled-table _ refl refl)
 
 returns-3 : tie.Need-returns-3
 unfolding tableAt

@@ -1,13 +1,10 @@
--- `empty_frame` is safe: the chips that the writer counts are in the buffer (`chips-fit`). Assumes nothing.
+-- `whole_frame` is safe: the chips that the writer counts are in the buffer (`chips-fit`). Assumes nothing.
 use mathlib.Core.Path.{sym}
 use lib.Seq.{length-take-le}
 use borrow.Author.Needs.{needs}
 use Rattle.frame.proofs.Writer.{chips-fit}
-use Rattle.vectors.proofs.empty_frame.Statement.{statement}
-use Rattle.vectors.proofs.empty_frame.Tie as tie
-
-slice-aggregate-write : tie.Need-slice-aggregate-write
-slice-aggregate-write c = search needs
+use Rattle.vectors.proofs.whole_frame.Statement.{statement}
+use Rattle.vectors.proofs.whole_frame.Tie as tie
 
 write-requires : tie.Need-write-requires
 write-requires c κs = search needs
@@ -38,11 +35,10 @@ same-length c = search needs
 returns : tie.Need-returns
 returns c = search needs
 
-pub empty-frame-spec : {M : Type 1} → statement M
-empty-frame-spec =
+pub whole-frame-spec : {M : Type 1} → statement M
+whole-frame-spec =
     tie.close
     (tie.spec
-    slice-aggregate-write
     write-requires
     cast-count
     slice-reshare-prefix-digits

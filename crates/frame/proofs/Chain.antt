@@ -1,0 +1,36 @@
+-- The chain runs through the whole frame: symbol j is what is sent for raw symbol j after the symbol before it, the first after 0.
+-- Assumes nothing.
+use mathlib.Core.Path.{_≡_, refl, ap}
+use mathlib.Core.List.{List, [], _∷_}
+use Prim.Native.Nat.{ℕ, zero, suc, _<_}
+use native.Mathlib.Omega.{arith}
+use lib.ListN.{length, getD}
+use Rattle.codes.specs.Radio.{Radio}
+use Rattle.frame.specs.Frame.{octets, raws, sent, encode, symbols}
+
+module _ (r : Radio) where
+  pub encode-long : (last : ℕ) (bs : List ℕ) → length (encode r last bs) ≡ length bs
+  unfolding encode
+  encode-long last [] = refl
+  encode-long last (b ∷ bs) = ap suc (encode-long (sent r last b) bs)
+
+  encode-next : (last : ℕ) (bs : List ℕ) (j : ℕ) → suc j < length bs → getD (encode r last bs) (suc j) 0 ≡ sent r (getD (encode r last bs) j 0) (getD bs (suc j) 0)
+  unfolding encode
+  encode-next last [] j h = absurd (omega arith)
+  encode-next last (b ∷ []) j h = absurd (omega arith)
+  encode-next last (b ∷ c ∷ bs) zero h = refl
+  encode-next last (b ∷ c ∷ bs) (suc j) h = encode-next (sent r last b) (c ∷ bs) j (omega arith)
+
+  encode-first : (last : ℕ) (bs : List ℕ) → 0 < length bs → getD (encode r last bs) 0 0 ≡ sent r last (getD bs 0 0)
+  unfolding encode
+  encode-first last [] h = absurd (omega arith)
+  encode-first last (b ∷ bs) h = refl
+
+  pub symbols-next : (report : List ℕ) (j : ℕ) → suc j < length (raws r (octets report))
+      → getD (symbols r report) (suc j) 0 ≡ sent r (getD (symbols r report) j 0) (getD (raws r (octets report)) (suc j) 0)
+  unfolding symbols
+  symbols-next report j h = encode-next 0 (raws r (octets report)) j h
+
+  pub symbols-first : (report : List ℕ) → 0 < length (raws r (octets report)) → getD (symbols r report) 0 0 ≡ sent r 0 (getD (raws r (octets report)) 0 0)
+  unfolding symbols
+  symbols-first report h = encode-first 0 (raws r (octets report)) h
