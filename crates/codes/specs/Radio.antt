@@ -78,7 +78,8 @@ abbrev pub word : Radio → ℕ → List ℕ
 word r v = getD (r .words) v []
 
 -- A radio is sound where its words have the length that it says and are of chips, there are 2 ^ bits of them, any two are
--- more than twice the limit apart, and only single bits are chained. Laws about reading and writing ask just this.
+-- more than twice the limit apart, and only single bits are chained. Laws about the definitions ask just this; those about the
+-- code ask besides that its numbers fit the code's.
 pub record Sound (r : Radio) : Type 0 where
   pub sized : (v : ℕ) → v < length (r .words) → length (word r v) ≡ r .size
   pub chips : (v : ℕ) → v < length (r .words) → bad (word r v) ≡ false
