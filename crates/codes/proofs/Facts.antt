@@ -3,7 +3,7 @@
 use mathlib.Core.Path.{_≡_, refl}
 use mathlib.Core.Bool.{Bool, true, false, not}
 use mathlib.Core.List.{List, [], _∷_}
-use Prim.Native.Nat.{ℕ, zero, suc, _+_, _*_, _^_, _≤_, _<_}
+use Prim.Native.Nat.{ℕ, zero, suc, _+_, _*_, _/_, _^_, _≤_, _<_}
 use native.Mathlib.Omega.{arith}
 use lib.ListN.{length, replicate}
 use lib.Dec.{eqb, ltb}
@@ -80,9 +80,9 @@ chipsTest r = everyWord r (λ v. not (bad (word r v)))
 apartTest : Radio → Bool
 apartTest r = everyPair r (λ u v. ltb (2 * r .limit) (distance (word r u) (word r v)))
 
-sound-by : (r : Radio) → sizedTest r ≡ true → chipsTest r ≡ true → apartTest r ≡ true → length (r .words) ≡ 2 ^ r .bits → (r .chained ≡ true → r .bits ≡ 1) → Sound r
+sound-by : (r : Radio) → sizedTest r ≡ true → chipsTest r ≡ true → apartTest r ≡ true → length (r .words) ≡ 2 ^ r .bits → (r .chained ≡ true → r .bits ≡ 1) → 8 / r .bits * r .bits ≡ 8 → Sound r
 unfolding sizedTest chipsTest apartTest
-sound-by r s c a m b =
+sound-by r s c a m b o =
     record {
       sized = λ v h. eqb-true _ _ (each-word r (λ v. eqb (length (word r v)) (r .size)) s v h);
       chips = λ v h. not-true _ (each-word r (λ v. not (bad (word r v))) c v h);
@@ -90,15 +90,16 @@ sound-by r s c a m b =
       apart = λ u v hu hv l. by-test (eqb u v) (λ e. eqb-true _ _ e)
           (λ e. absurd (omega (arith, ltb-true (2 * r .limit) (distance (word r u) (word r v)) (each-pair r (λ u v. ltb (2 * r .limit) (distance (word r u) (word r v))) a u v hu hv (eqb-false _ _ e)))));
       single = b;
+      divides = o;
     }
 
 pub sound-bpsk : Sound bpsk
 unfolding sizedTest chipsTest apartTest everyWord everyPair every distance bad bpskWords
-sound-bpsk = sound-by bpsk refl refl refl refl (λ _. refl)
+sound-bpsk = sound-by bpsk refl refl refl refl (λ _. refl) refl
 
 pub sound-oqpsk : Sound oqpsk
 unfolding sizedTest chipsTest apartTest everyWord everyPair every distance bad oqpskWords turnedWords turns turned oddInverted oqpskWord
-sound-oqpsk = sound-by oqpsk refl refl refl refl (λ c. not-both false c refl)
+sound-oqpsk = sound-by oqpsk refl refl refl refl (λ c. not-both false c refl) refl
 
 unflat-bpsk : Unflat bpsk
 unfolding flatTest everyWord every distance bpskWords

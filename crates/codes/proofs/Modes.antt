@@ -1,9 +1,10 @@
 -- What is true of each radio is true of a mode's, and what tests of a mode number leave. Assumes nothing.
-use mathlib.Core.Path.{_≡_, _∙_}
+use mathlib.Core.Path.{_≡_, sym, _∙_}
 use mathlib.Core.Bool.{true, false}
 use Prim.Native.Nat.{ℕ, zero, suc}
 use native.Mathlib.Omega.{arith}
 use borrow.Author.Tests.{le-ltb, ltb-true}
+use Rattle.codes.specs.Chips.{pick}
 use Rattle.codes.specs.Radio.{Radio, known, radioOf, bpsk, oqpsk}
 use Rattle.codes.specs.Lent.{sizeAt}
 use Rattle.codes.proofs.Tests.{by-test}
@@ -24,13 +25,21 @@ second mode k n = omega (arith, ltb-true mode 2 k)
 pub size-known : (mode : ℕ) → known mode ≡ true → sizeAt mode ≡ radioOf mode .size
 size-known mode k = rw k
 
+-- a number that each radio has, and that is 0 where there is no radio: where it isn't 0 there is one, and it is that radio's
+pub numbered : (f : Radio → ℕ) (mode x : ℕ) → x ≡ pick (known mode) (f (radioOf mode)) 0 → (x ≡ 0 → ⊥) → (known mode ≡ true) × (x ≡ f (radioOf mode))
+numbered f mode x e n = by-test (known mode) (λ a. (a, e ∙ rw a)) (λ a. absurd (n (e ∙ rw a)))
+
+-- and where it is 0, and no radio's is, there is none
+pub numberless : (f : Radio → ℕ) → (f bpsk ≡ 0 → ⊥) → (f oqpsk ≡ 0 → ⊥) → (mode x : ℕ) → x ≡ pick (known mode) (f (radioOf mode)) 0 → x ≡ 0 → known mode ≡ false
+numberless f b o mode x e z =
+    by-test (known mode)
+    (λ a. let n : x ≡ f (radioOf mode) = e ∙ rw a in absurd (each-row (λ r. f r ≡ 0 → ⊥) b o mode (sym n ∙ z)))
+    (λ a. a)
+
 -- a mode whose symbols have chips has a radio, and they are that radio's
 pub sized : (mode size : ℕ) → size ≡ sizeAt mode → (size ≡ 0 → ⊥) → (known mode ≡ true) × (size ≡ radioOf mode .size)
-sized mode size e n = by-test (known mode) (λ a. (a, e ∙ rw a)) (λ a. absurd (n (e ∙ rw a)))
+sized mode size = numbered (λ (r : Radio). r .size) mode size
 
 -- and one whose symbols have none has no radio
 pub sizeless : (mode size : ℕ) → size ≡ sizeAt mode → size ≡ 0 → known mode ≡ false
-sizeless mode size e z =
-    by-test (known mode)
-    (λ a. absurd (each-row (λ r. r .size ≡ 0 → ⊥) (λ x. omega arith) (λ x. omega arith) mode (rw (e ∙ size-known mode a) at z)))
-    (λ a. a)
+sizeless mode size = numberless (λ (r : Radio). r .size) (λ x. omega arith) (λ x. omega arith) mode size

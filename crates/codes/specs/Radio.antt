@@ -1,7 +1,7 @@
 -- The two radios (document 01, "The two radios"), each a row of one list. Everything below `radioOf` takes the radio, so a
 -- third radio is a third row.
 use mathlib.Core.Path.{_≡_}
-use Prim.Native.Nat.{ℕ, zero, suc, _-_, _*_, _^_, _≤_, _<_}
+use Prim.Native.Nat.{ℕ, zero, suc, _-_, _*_, _/_, _^_, _≤_, _<_}
 use mathlib.Core.Bool.{Bool, true, false}
 use mathlib.Core.List.{List, [], _∷_, _++_, map}
 use lib.ListN.{length, getD, take, drop}
@@ -78,11 +78,12 @@ abbrev pub word : Radio → ℕ → List ℕ
 word r v = getD (r .words) v []
 
 -- A radio is sound where its words have the length that it says and are of chips, there are 2 ^ bits of them, any two are
--- more than twice the limit apart, and only single bits are chained. Laws about the definitions ask just this; those about the
--- code ask besides that its numbers fit the code's.
+-- more than twice the limit apart, only single bits are chained, and an octet is a whole number of symbols. Laws about the
+-- definitions ask just this; those about the code ask besides that its numbers fit the code's.
 pub record Sound (r : Radio) : Type 0 where
   pub sized : (v : ℕ) → v < length (r .words) → length (word r v) ≡ r .size
   pub chips : (v : ℕ) → v < length (r .words) → bad (word r v) ≡ false
   pub many : length (r .words) ≡ 2 ^ r .bits
   pub apart : (u v : ℕ) → u < length (r .words) → v < length (r .words) → distance (word r u) (word r v) ≤ 2 * r .limit → u ≡ v
   pub single : r .chained ≡ true → r .bits ≡ 1
+  pub divides : 8 / r .bits * r .bits ≡ 8

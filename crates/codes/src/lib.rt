@@ -8,7 +8,7 @@ ghost use lib.ListN.{length, take, drop};
 ghost use lib.Dec.{ltb};
 ghost use Rattle.codes.specs.Chips.{bad};
 ghost use Rattle.codes.specs.Symbol.{refused, symbolAt};
-ghost use Rattle.codes.specs.Lent.{sizeAt};
+ghost use Rattle.codes.specs.Lent.{sizeAt, badIn, badAt};
 ghost use Rattle.codes.specs.Matching.{sumTo, nearestOf, judged, matchIn, matchedAt};
 
 mod tables;
@@ -102,6 +102,29 @@ pub fn matched(mode: u32, words: &[u8; 512], chips: &[u8], at: usize) -> Symbol
         return match_in(32, 16, 5, words, chips, at);
     }
     refusal(BADMODE)
+}
+
+// Whether the mode's whole symbol that begins at a place has a byte that is no chip; false for a mode that has no radio.
+pub fn bad_symbol(mode: u32, chips: &[u8], at: usize) -> bool
+    ensures { λ r. ⌜ r ≡ badAt mode (now (chips .entry)) at ⌝ }
+{
+    if mode == 0 {
+        return bad_in(15, chips, at);
+    }
+    if mode == 1 {
+        return bad_in(32, chips, at);
+    }
+    false
+}
+
+// Called with constants, as `match_in` is.
+fn bad_in(size: usize, chips: &[u8], at: usize) -> bool
+    ensures { λ r. ⌜ r ≡ badIn size (now (chips .entry)) at ⌝ }
+{
+    if run_out(chips, at, size) {
+        return false;
+    }
+    1 < highest(chips, at, size)
 }
 
 // Matching for any word length, number of words and limit. Called with constants, so that the chip loop has a constant

@@ -1,10 +1,16 @@
 -- Bounds that every radio keeps. Assumes nothing.
+use mathlib.Core.Path.{_≡_}
+use mathlib.Core.Bool.{true}
 use Prim.Native.Nat.{ℕ, _+_, _*_, _^_, _≤_}
 use native.Mathlib.Omega.{arith}
-use Rattle.codes.specs.Radio.{radioOf}
+use Rattle.codes.specs.Radio.{known, radioOf}
 use Rattle.codes.proofs.Modes.{each-row}
-use Rattle.frame.specs.Frame.{perOctet}
+use Rattle.frame.specs.Frame.{perOctet, perAt}
 use Rattle.frame.specs.Putting.{octetChips}
+
+-- an octet of a mode that has a radio has that radio's number of symbols
+pub per-known : (mode : ℕ) → known mode ≡ true → perAt mode ≡ perOctet (radioOf mode)
+per-known mode k = rw k
 
 pub few-values : (mode : ℕ) → 2 ^ radioOf mode .bits ≤ 16
 few-values = each-row (λ r. 2 ^ r .bits ≤ 16) (omega arith) (omega arith)

@@ -1,5 +1,5 @@
--- The writer's promise settles its answer and every byte of the lent buffer at exit: two outcomes that satisfy it are equal. It
--- speaks of the writer's own contract, as `Settles` does. Assumes nothing.
+-- The promises settle what they speak of: two outcomes that satisfy one are equal. The writer's settles its answer and every byte
+-- of the lent buffer at exit; it speaks of the writer's own contract, as `Settles` does. Assumes nothing.
 use mathlib.Core.Path.{_≡_, ap}
 use mathlib.Core.List.{List}
 use Prim.Native.Nat.{ℕ}
@@ -7,10 +7,15 @@ use contract.Lifetimes.{Lfts}
 use denote.Ref.{now}
 use denote.Triple.Clauses.{AtExit}
 use borrow.Fn.Kinds.{Dens, resT, endedOf}
-use Rattle.codes.proofs.Settled.{settled}
+use Rattle.codes.proofs.Settled.{settled, Settles}
 use Rattle.frame.specs.Outcome.{Outcome, outcome}
+use Rattle.frame.proofs.per_octet.Kinds as per-octet-kinds
+use Rattle.frame.proofs.per_octet.Reads as per-octet-promise
 use Rattle.frame.proofs.write.Kinds as write-kinds
 use Rattle.frame.proofs.write.Reads as write-promise
+
+pub per-octet-settled : Settles 0 per-octet-kinds.ps per-octet-kinds.r per-octet-promise.Post
+per-octet-settled κs a p q s t = settled p q
 
 -- an outcome is an answer and a buffer
 pub both : {A : Type 0} (p q : A) (b c : List ℕ) → outcome p b ≡ outcome q c → (p ≡ q) × (b ≡ c)

@@ -9,7 +9,7 @@ ghost use lib.Seq.{paste};
 ghost use Rattle.codes.specs.Radio.{known, radioOf, word};
 ghost use Rattle.codes.specs.Lent.{tableAt};
 ghost use Rattle.frame.specs.Outcome.{outcome};
-ghost use Rattle.frame.specs.Frame.{octets, perOctet, rawOf, sent, encode, symbols, chipsOf};
+ghost use Rattle.frame.specs.Frame.{octets, perAt, rawOf, sent, encode, symbols, chipsOf};
 ghost use Rattle.frame.specs.Write.{refused, written};
 ghost use Rattle.frame.specs.Putting.{over, lastSent, octetChips};
 
@@ -153,11 +153,17 @@ fn high_bits(mode: u32, x: u8) -> u8
     if mode == 0 { x / 2 } else { x / 16 }
 }
 
-fn per_octet(mode: u32) -> usize
-    requires { ⌜ known mode ≡ true ⌝ }
-    ensures { λ r. ⌜ r ≡ perOctet (radioOf mode) ⌝ }
+// Symbols of an octet of the mode's radio; 0 for a mode that has no radio.
+pub fn per_octet(mode: u32) -> usize
+    ensures { λ r. ⌜ r ≡ perAt mode ⌝ }
 {
-    if mode == 0 { 8 } else { 2 }
+    if mode == 0 {
+        return 8;
+    }
+    if mode == 1 {
+        return 2;
+    }
+    0
 }
 
 fn octet_chips(mode: u32) -> usize

@@ -1,8 +1,12 @@
 // The cases of document 01 that are run and compared only. Each line is compared with the file stdout, whose chip strings were
-// made of tables 21 and 24 of the draft standard and not by this code.
+// made of tables 21 and 24 of the draft standard, and its readings of the rules of document 01, and not by this code.
 ghost use mathlib.Core.Path.{_≡_};
 ghost use lib.ListN.{length};
 use libc::STDOUT_FILENO;
+
+mod damage;
+mod lines;
+mod reads;
 
 fn main() {
     let report = [0x5Au8; 128];
@@ -22,6 +26,7 @@ fn main() {
     whole_frame(1, b"", &mut chips);
     whole_frame(0, b"rope 12 wet", &mut chips);
     whole_frame(1, b"rope 12 wet", &mut chips);
+    reads::all(&mut chips);
 }
 
 // Room for the longest frame.

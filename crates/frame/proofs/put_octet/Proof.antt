@@ -8,7 +8,7 @@ use Rattle.codes.specs.Radio.{radioOf}
 use Rattle.codes.proofs.Facts.{sound}
 use Rattle.frame.specs.Frame.{perOctet, sent}
 use Rattle.codes.proofs.Modes.{size-known}
-use Rattle.frame.proofs.Modes.{few-values, few-symbols}
+use Rattle.frame.proofs.Modes.{per-known, few-values, few-symbols}
 use Rattle.frame.proofs.Turns.{OctetLeft, octet-starts, octet-ends, octet-room, octet-value, octet-turns}
 use Rattle.frame.proofs.put_octet.Statement.{statement}
 use Rattle.frame.proofs.put_octet.Tie as tie
@@ -23,7 +23,7 @@ size-of-requires : tie.Need-size-of-requires Inv-loop μ-loop
 size-of-requires c κs = tt
 
 per-octet-requires : tie.Need-per-octet-requires Inv-loop μ-loop
-per-octet-requires c κs = c .before .before .pre .0
+per-octet-requires c κs = tt
 
 loop-holds : tie.Need-loop-holds Inv-loop μ-loop
 loop-holds c = let s = c .before .before .before in octet-starts _ _ _ _ _ (s .pre .2)
@@ -43,7 +43,7 @@ put-symbol-requires c κs =
     let l = c .before .before .before .before in
     let s = l .before .before .before .before in
     let r = radioOf (s .args .mode) in
-    let h : l .loop .i < perOctet r = rw (← l .before .per-octet .ensures) (c .before .before .before .loop-test .taken) in
+    let h : l .loop .i < perOctet r = rw (← (l .before .per-octet .ensures ∙ per-known (s .args .mode) (s .pre .0))) (c .before .before .before .loop-test .taken) in
     let e = c .before .sent-symbol .ensures ∙ ap (sent r (l .loop .v)) (c .before .before .low-bits .ensures) in (
       s .pre .0,
       s .pre .1,
@@ -58,12 +58,14 @@ add-p : tie.Need-add-p Inv-loop μ-loop
 add-p c =
     let l = c .before .before .before .before .before .before .before .before in
     let s = l .before .before .before .before in
-    let h : l .loop .i < perOctet (radioOf (s .args .mode)) = rw (← l .before .per-octet .ensures) (c .before .before .before .before .before .before .before .loop-test .taken) in
+    let h : l .loop .i < perOctet (radioOf (s .args .mode)) = rw (← (l .before .per-octet .ensures ∙ per-known (s .args .mode) (s .pre .0))) (c .before .before .before .before .before .before .before .loop-test .taken) in
     omega (arith, octet-room (radioOf (s .args .mode)) _ _ _ _ _ _ _ _ _ (l .loop .inv) (s .pre .3) h, l .loop .inv .same, l .before .before .size-of .ensures, size-known (s .args .mode) (s .pre .0), s .good)
 
 add-i : tie.Need-add-i Inv-loop μ-loop
-add-i c = let l = c .before .before .before .before .before .before .before .before in
-    omega (arith, few-symbols (l .before .before .before .before .args .mode), l .before .per-octet .ensures, c .before .before .before .before .before .before .before .loop-test .taken)
+add-i c =
+    let l = c .before .before .before .before .before .before .before .before in
+    let s = l .before .before .before .before in
+    omega (arith, few-symbols (s .args .mode), l .before .per-octet .ensures, per-known (s .args .mode) (s .pre .0), c .before .before .before .before .before .before .before .loop-test .taken)
 
 loop-less : tie.Need-loop-less Inv-loop μ-loop
 loop-less c = omega (arith, c .before .before .before .before .before .before .before .loop-test .taken)
@@ -73,7 +75,7 @@ loop-again c =
     let l = c .before .before .before .before .before .before .before .before in
     let s = l .before .before .before .before in
     let r = radioOf (s .args .mode) in
-    let h : l .loop .i < perOctet r = rw (← l .before .per-octet .ensures) (c .before .before .before .before .before .before .before .loop-test .taken) in
+    let h : l .loop .i < perOctet r = rw (← (l .before .per-octet .ensures ∙ per-known (s .args .mode) (s .pre .0))) (c .before .before .before .before .before .before .before .loop-test .taken) in
     let e = c .before .before .before .before .before .sent-symbol .ensures ∙ ap (sent r (l .loop .v)) (c .before .before .before .before .before .before .low-bits .ensures) in
     octet-turns r _ _ _ _ _ _ _ _ _ (l .loop .inv) (s .pre .3) h (sound (s .args .mode)) _ _ e (c .high-bits .ensures) _ _
     (c .before .before .before .put-symbol .kept .1 .1 .1 .0) (c .before .before .before .put-symbol .ensures) (l .before .before .size-of .ensures ∙ size-known (s .args .mode) (s .pre .0))
@@ -83,7 +85,7 @@ same-length c = c .before .loop .inv .same
 
 returns : tie.Need-returns Inv-loop μ-loop
 returns c = let s = c .before .before .before .before .before in
-    octet-ends (radioOf (s .args .mode)) _ _ _ _ _ _ _ _ _ (c .before .loop .inv) (rw (c .before .before .per-octet .ensures) at (c .loop-test .left))
+    octet-ends (radioOf (s .args .mode)) _ _ _ _ _ _ _ _ _ (c .before .loop .inv) (rw (c .before .before .per-octet .ensures ∙ per-known (s .args .mode) (s .pre .0)) at (c .loop-test .left))
 
 pub put-octet-spec : {M : Type 1} → statement M
 put-octet-spec =

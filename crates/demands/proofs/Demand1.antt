@@ -1,0 +1,80 @@
+-- Demand 1. What a refusal leaves: the reader's n and count are 0, the writer's chip count is 0, and the lent buffer is unchanged. The
+-- numbers that each gives back are those of the document's table, and a mode that has no radio gives its own at place 0.
+-- Assumes nothing.
+use mathlib.Core.Path.{_≡_, refl}
+use mathlib.Core.Bool.{true, false}
+use mathlib.Core.List.{List, [], _∷_}
+use Prim.Native.Nat.{ℕ}
+use lib.ListN.{length}
+use lib.Dec.{eqb, ltb}
+use Rattle.codes.specs.Numbers.{DONE, BADMODE, TOOLONG, NOROOM, RUNOUT, NOCHIP, LOST, PREAMBLE, BADSTART, RESERVED}
+use Rattle.codes.specs.Radio.{known, radioOf}
+use Rattle.codes.proofs.Facts.{among}
+use Rattle.frame.specs.declared.Written.{Written}
+use Rattle.frame.specs.Outcome.{Outcome, outcome}
+use Rattle.frame.specs.Frame.{frame}
+use Rattle.frame.specs.Write.{unwritten, wrote, written}
+use Rattle.reader.specs.Order.{Answer, refused, done, reading}
+use Rattle.reader.specs.Read.{told, left, answerAt, readOf}
+use Rattle.demands.proofs.Reader.{by-pick, refusals, Fair, answer-fair}
+
+-- ---- the reader
+
+-- A refused reading: n and count 0, report buffer unchanged.
+pub read-refused : (mode : ℕ) (chips buffer : List ℕ) → (readOf mode chips buffer .answer .number ≡ DONE → ⊥)
+    → (readOf mode chips buffer .answer .n ≡ 0) × (readOf mode chips buffer .answer .count ≡ 0) × (readOf mode chips buffer .buffer ≡ buffer)
+unfolding told left
+read-refused mode chips buffer = go (answerAt mode (length buffer) chips)
+  where
+    go : (a : Answer) → (told a .number ≡ DONE → ⊥) → (told a .n ≡ 0) × (told a .count ≡ 0) × (left a buffer ≡ buffer)
+    go (refused x place) n = (refl, refl, refl)
+    go (done place report count) n = absurd (n refl)
+
+-- one number more to be among
+among-more : (x y : ℕ) (ns : List ℕ) → among x ns ≡ true → among x (y ∷ ns) ≡ true
+among-more x y ns f = by-pick (λ t. t ≡ true) (eqb x y) true (among x ns) (λ _. refl) (λ _. f)
+
+-- The reader gives back one of these numbers.
+pub read-numbers : (mode : ℕ) (chips buffer : List ℕ)
+    → among (readOf mode chips buffer .answer .number) (DONE ∷ BADMODE ∷ NOROOM ∷ RUNOUT ∷ NOCHIP ∷ LOST ∷ PREAMBLE ∷ BADSTART ∷ RESERVED ∷ []) ≡ true
+unfolding answerAt told
+read-numbers mode chips buffer = by-pick P (known mode) _ _ (λ _. go (reading (radioOf mode) (length buffer) chips) (answer-fair _ _ _)) (λ _. refl)
+  where
+    P : Answer → Type 0
+    P a = among (told a .number) (DONE ∷ BADMODE ∷ NOROOM ∷ RUNOUT ∷ NOCHIP ∷ LOST ∷ PREAMBLE ∷ BADSTART ∷ RESERVED ∷ []) ≡ true
+
+    go : (a : Answer) → Fair a → P a
+    go (refused x place) f = among-more x DONE (BADMODE ∷ refusals) (among-more x BADMODE refusals f)
+    go (done place report count) f = refl
+
+-- A mode that has no radio: its number at place 0, before any symbol.
+pub read-bad-mode : (mode : ℕ) (chips buffer : List ℕ) → known mode ≡ false
+    → readOf mode chips buffer ≡ outcome (record { number = BADMODE; place = 0; n = 0; count = 0 }) buffer
+unfolding answerAt told left
+read-bad-mode mode chips buffer k = rw k
+
+-- ---- the writer
+
+-- what is true of the writer's four ways
+written-ways : (mode : ℕ) (report buffer : List ℕ) (P : Outcome Written → Type 0) → P (unwritten BADMODE buffer)
+    → P (unwritten TOOLONG buffer) → P (unwritten NOROOM buffer)
+    → P (wrote (frame (radioOf mode) report) buffer) → P (written mode report buffer)
+unfolding written
+written-ways mode report buffer P m t n w =
+    by-pick P (known mode) _ _
+    (λ _. by-pick P (ltb 127 (length report)) _ _ (λ _. t)
+    (λ _. by-pick P (ltb (length buffer) (length (frame (radioOf mode) report))) _ _ (λ _. n) (λ _. w)))
+    (λ _. m)
+
+-- A refused writing: chip count 0, buffer unchanged.
+pub write-refused : (mode : ℕ) (report buffer : List ℕ) → (written mode report buffer .answer .number ≡ DONE → ⊥)
+    → (written mode report buffer .answer .chips ≡ 0) × (written mode report buffer .buffer ≡ buffer)
+write-refused mode report buffer =
+    written-ways mode report buffer (λ o. (o .answer .number ≡ DONE → ⊥) → (o .answer .chips ≡ 0) × (o .buffer ≡ buffer))
+    (λ _. (refl, refl)) (λ _. (refl, refl)) (λ _. (refl, refl)) (λ n. absurd (n refl))
+
+-- The writer gives back one of these numbers.
+pub write-numbers : (mode : ℕ) (report buffer : List ℕ)
+    → among (written mode report buffer .answer .number) (DONE ∷ BADMODE ∷ TOOLONG ∷ NOROOM ∷ []) ≡ true
+write-numbers mode report buffer =
+    written-ways mode report buffer (λ o. among (o .answer .number) (DONE ∷ BADMODE ∷ TOOLONG ∷ NOROOM ∷ []) ≡ true) refl refl refl refl

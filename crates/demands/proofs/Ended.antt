@@ -1,0 +1,109 @@
+-- A reading that is done: the windows begin with the symbols of a report's frame, it is that report that is answered, and it has
+-- room. For any sound radio. Assumes nothing.
+use mathlib.Core.Path.{_≡_, refl, sym, ap, _∙_}
+use mathlib.Core.Logic.{_⊎_, inl, inr, ⊎-elim}
+use mathlib.Core.List.{List, []}
+use Prim.Native.Nat.{ℕ, suc, _+_, _*_, _^_, _≤_, _<_}
+use native.Mathlib.Nat.{eq-or-lt-of-le, zero-add}
+use native.Mathlib.Omega.{arith}
+use lib.ListN.{length, getD, take}
+use lib.Seq.{getD-take}
+use Rattle.codes.specs.Numbers.{DONE, MORE}
+use Rattle.codes.specs.Radio.{Radio, Sound}
+use Rattle.codes.specs.Symbol.{symbolOf}
+use Rattle.codes.proofs.Tests.{upto}
+use Rattle.codes.proofs.Unique.{Reads, of-symbol}
+use Rattle.frame.specs.Frame.{perOctet, encode, symbols}
+use Rattle.frame.proofs.Count.{Below}
+use Rattle.reader.specs.Received.{decode, octetAt}
+use Rattle.reader.specs.Order.{done, values, repaired, verdict, reportIn, readingFrom}
+use Rattle.demands.specs.Words.{Report}
+use Rattle.reader.proofs.Below.{at-below}
+use Rattle.demands.proofs.Back.{decode-take, encode-decode}
+use Rattle.reader.proofs.Raw.{decode-long, decode-below}
+use Rattle.reader.proofs.Rules.{Clear, rules-clear, rules-last}
+use Rattle.demands.proofs.Path.{rawsTo, Run, ending, same-parts, reading-run}
+use Rattle.reader.proofs.Windows.{seen}
+use Rattle.demands.proofs.Found.{found-room, found-report, found-raws}
+use Rattle.demands.proofs.Stands.{Stands, values-long, values-at, values-take}
+
+-- what a reading of windows that is done says
+pub record Heard (r : Radio) (room : ℕ) (ws : List (List ℕ)) (place : ℕ) (report : List ℕ) (count : ℕ) : Type 0 where
+  pub proper : Report report
+  pub fits : length report ≤ room
+  pub at : place ≡ length (symbols r report)
+  pub row : Stands r ws (symbols r report) count
+
+module _ (r : Radio) (S : Sound r) (room : ℕ) (ws : List (List ℕ)) where
+  module _ (k : ℕ) (R : Run r room ws 0 k) where
+    abbrev vs : List ℕ
+    vs = values (take (suc k) (seen r ws))
+
+    abbrev bs : List ℕ
+    bs = rawsTo r ws (suc k)
+
+    long : length vs ≡ suc k
+    long = values-long r ws (suc k) (R .inside)
+
+    read-at : (j : ℕ) → j < suc k → Reads r (getD ws j []) (getD vs j 0) (symbolOf r (getD ws j []) .distance)
+    read-at j h =
+        let w = getD ws j [] in
+        let z = R .good j (omega arith) (omega arith) in
+        rw (values-at r ws (suc k) j (R .inside) h)
+        (of-symbol r w (symbolOf r w .value) (symbolOf r w .distance) (λ i. record { number = z i; value = symbolOf r w .value; distance = symbolOf r w .distance }))
+
+    vs-below : Below (2 ^ r .bits) vs
+    vs-below = at-below (2 ^ r .bits) vs (λ j h. rw (← S .many) (read-at j (omega (arith, long)) .known))
+
+    -- the raw symbols up to symbol j are the first of them all
+    prefix : (j : ℕ) → j < suc k → rawsTo r ws (suc j) ≡ take (suc j) bs
+    prefix j h = ap (decode r 0) (values-take r ws (suc j) (suc k) h) ∙ sym (decode-take r 0 (suc j) vs)
+
+    number-at : (j : ℕ) → j < suc k → (verdict r room j (take (suc j) bs) ≡ MORE) ⊎ (verdict r room j (take (suc j) bs) ≡ DONE)
+    number-at j h =
+        rw (← prefix j h)
+        (⊎-elim (λ (e : j ≡ k). inr (rw e (R .last))) (λ (l : j < k). inl (R .more j (omega arith) l)) (eq-or-lt-of-le (upto j k h)))
+
+    clear : (j : ℕ) → j < length bs → Clear (perOctet r) room j (getD bs j 0) (octetAt r 4 (take (suc j) bs)) (octetAt r 5 (take (suc j) bs))
+    clear j h =
+        rw (← getD-take (suc j) bs j 0 (omega arith))
+        (rules-clear (perOctet r) room j _ _ _ (verdict r room j (take (suc j) bs)) (number-at j (omega (arith, decode-long r 0 vs, long))) refl)
+
+    whole-long : length bs ≡ (6 + octetAt r 5 bs) * perOctet r
+    whole-long = decode-long r 0 vs ∙ long ∙ rules-last (perOctet r) room k (getD bs k 0) (octetAt r 4 bs) (octetAt r 5 bs) (R .last)
+
+    same : symbols r (reportIn r bs) ≡ vs
+    unfolding symbols
+    same =
+        ap (encode r 0) (found-raws r S room bs (decode-below r S 0 vs vs-below) clear whole-long) ∙ encode-decode r S 0 vs vs-below
+
+    row-of : Stands r ws vs (repaired (take (suc k) (seen r ws)))
+    row-of =
+        record {
+          enough = omega (arith, long, R .inside);
+          stands = λ j h.
+              let l : j < suc k = omega (arith, long) in
+              let n = R .good j (omega arith) (omega arith) in
+              let v = sym (values-at r ws (suc k) j (R .inside) l) in
+              let d = read-at j l .apart in
+              λ i. record { number = n i; value = v i; distance = d i };
+          total = ap (λ (n : ℕ). repaired (take n (seen r ws))) (sym long);
+        }
+
+    heard : Heard r room ws (suc k) (reportIn r bs) (repaired (take (suc k) (seen r ws)))
+    heard =
+        record {
+          proper = found-report r S room bs (decode-below r S 0 vs vs-below) clear whole-long;
+          fits = found-room r S room bs (decode-below r S 0 vs vs-below) clear whole-long;
+          at = sym (ap length same ∙ long);
+          row = rw same row-of;
+        }
+
+  -- a reading of windows that is done says so
+  pub reading-heard : (place count : ℕ) (report : List ℕ) → readingFrom r room [] ws ≡ done place report count → Heard r room ws place report count
+  reading-heard place count report e = go (reading-run r room ws (length ws) 0 place count report (zero-add (length ws)) e)
+    where
+      go : (k : ℕ) × Run r room ws 0 k × (ending r ws k ≡ done place report count) → Heard r room ws place report count
+      go (k, R, o) =
+          let s = same-parts (suc k) place (repaired (take (suc k) (seen r ws))) count (reportIn r (rawsTo r ws (suc k))) report o in
+          rw (← s .0, ← s .1, ← s .2) (heard k R)

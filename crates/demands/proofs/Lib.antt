@@ -1,0 +1,22 @@
+-- The demands, and the laws that they stand on, leaves first. Demand1, Demand2, Demand3 and the files after it are for a reader; each
+-- opens with what it says in plain words.
+pub mod Digits
+pub mod Back
+pub mod Octet
+pub mod Path
+pub mod Framed
+pub mod Found
+pub mod Fronts
+pub mod Frames
+pub mod Stands
+pub mod Ended
+pub mod Answered
+pub mod Close
+pub mod Demand3
+pub mod Repair
+pub mod PutRight
+pub mod NoFlat
+pub mod OneAnswer
+pub mod Reader
+pub mod Demand2
+pub mod Demand1

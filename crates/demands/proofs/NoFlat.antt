@@ -1,0 +1,29 @@
+-- No symbol of an accepted frame is flat, all 0 or all 1: for any radio whose words are all farther than the limit from both flat
+-- words, and so in either mode. Assumes nothing.
+use mathlib.Core.Path.{_≡_}
+use mathlib.Core.Bool.{true}
+use mathlib.Core.List.{List}
+use Prim.Native.Nat.{ℕ, _≤_, _<_}
+use native.Mathlib.Omega.{arith}
+use lib.ListN.{length, getD, replicate}
+use Rattle.codes.specs.Chips.{distance}
+use Rattle.codes.specs.Radio.{Radio, Sound, known, radioOf, word}
+use Rattle.codes.proofs.Facts.{Unflat, unflat, sound}
+use Rattle.frame.specs.Frame.{symbols}
+use Rattle.reader.specs.Order.{window}
+use Rattle.demands.specs.Words.{Answers}
+use Rattle.demands.proofs.Demand3.{answer-room, demand-3}
+use Rattle.demands.proofs.Frames.{symbol-known, frame-window}
+
+-- No symbol of an accepted frame is all 0 or all 1.
+pub no-flat : (r : Radio) → Sound r → Unflat r → (room : ℕ) (chips report : List ℕ) (count : ℕ) → Answers r room chips report count
+    → (s : ℕ) → s < length (symbols r report) → (c : ℕ) → c ≤ 1 → window r chips s ≡ replicate (r .size) c → ⊥
+no-flat r S U room chips report count a s h c l e =
+    let near = demand-3 r S room chips report count (answer-room r S room chips report count a) .0 a .1 .near s h in
+    let close : distance (replicate (r .size) c) (word r (getD (symbols r report) s 0)) ≤ r .limit = rw (e, frame-window r S report s h) at near in
+    omega (arith, U c (getD (symbols r report) s 0) l (symbol-known r S report s h))
+
+-- the same in either mode
+pub no-flat-mode : (mode : ℕ) → known mode ≡ true → (room : ℕ) (chips report : List ℕ) (count : ℕ) → Answers (radioOf mode) room chips report count
+    → (s : ℕ) → s < length (symbols (radioOf mode) report) → (c : ℕ) → c ≤ 1 → window (radioOf mode) chips s ≡ replicate (radioOf mode .size) c → ⊥
+no-flat-mode mode k = no-flat (radioOf mode) (sound mode) (unflat mode)

@@ -1,0 +1,112 @@
+-- A reading that is done is a run of symbols: each is read, the rules want more after each but the last, and are done after that.
+-- Both ways, for any radio. Assumes nothing.
+use mathlib.Core.Path.{_≡_, sym, ap, _∙_}
+use mathlib.Core.Logic.{⊎-elim}
+use mathlib.Core.List.{List, []}
+use Prim.Native.Nat.{ℕ, zero, suc, _+_, _≤_, _<_}
+use native.Mathlib.Nat.{eq-or-lt-of-le}
+use native.Mathlib.Omega.{arith}
+use lib.Dec.{eqb}
+use lib.ListN.{length, getD, take}
+use borrow.Author.Tests.{eqb-true, eq-eqb}
+use Rattle.codes.specs.Numbers.{DONE, MORE}
+use Rattle.codes.specs.Chips.{pick}
+use Rattle.codes.specs.Radio.{Radio}
+use Rattle.codes.specs.Symbol.{symbolOf}
+use Rattle.codes.proofs.Tests.{by-test}
+use Rattle.reader.specs.Received.{received}
+use Rattle.reader.proofs.Windows.{seen, seen-front, seen-next, rest, rest-more, rest-out}
+use Rattle.reader.specs.Order.{Answer, refused, done, values, repaired, verdict, reportIn, concluded, taking}
+
+-- the raw symbols of the first k windows
+abbrev pub rawsTo : Radio → List (List ℕ) → ℕ → List ℕ
+rawsTo r ws k = received r (values (take k (seen r ws)))
+
+-- from symbol m on, the reading goes to symbol k and is done there
+pub record Run (r : Radio) (room : ℕ) (ws : List (List ℕ)) (m k : ℕ) : Type 0 where
+  pub from : m ≤ k
+  pub inside : k < length ws
+  pub good : (j : ℕ) → m ≤ j → j ≤ k → symbolOf r (getD ws j []) .number ≡ DONE
+  pub more : (j : ℕ) → m ≤ j → j < k → verdict r room j (rawsTo r ws (suc j)) ≡ MORE
+  pub last : verdict r room k (rawsTo r ws (suc k)) ≡ DONE
+
+-- what it answers
+abbrev pub ending : Radio → List (List ℕ) → ℕ → Answer
+ending r ws k = done (suc k) (reportIn r (rawsTo r ws (suc k))) (repaired (take (suc k) (seen r ws)))
+
+-- the parts of an answer
+doneNumber : Answer → ℕ
+doneNumber (refused x s) = 1
+doneNumber (done s report count) = 0
+
+placeOf : Answer → ℕ
+placeOf (refused x s) = s
+placeOf (done s report count) = s
+
+reportOf : Answer → List ℕ
+reportOf (refused x s) = []
+reportOf (done s report count) = report
+
+countOf : Answer → ℕ
+countOf (refused x s) = 0
+countOf (done s report count) = count
+
+-- answers that are done and equal have equal parts
+pub same-parts : (p q c d : ℕ) (xs ys : List ℕ) → done p xs c ≡ done q ys d → (p ≡ q) × (xs ≡ ys) × (c ≡ d)
+unfolding placeOf reportOf countOf
+same-parts p q c d xs ys e = (ap placeOf e, ap reportOf e, ap countOf e)
+
+module _ (r : Radio) (room : ℕ) (ws : List (List ℕ)) where
+  -- one symbol of the reading
+  step : (m : ℕ) → m < length ws → rest r ws room m
+      ≡ pick (eqb (symbolOf r (getD ws m []) .number) DONE)
+      (concluded r m (take (suc m) (seen r ws)) (verdict r room m (rawsTo r ws (suc m))) (rest r ws room (suc m)))
+      (refused (symbolOf r (getD ws m []) .number) m)
+  unfolding taking
+  step m h = rest-more r ws room m h ∙ rw (← seen-next r ws m h, seen-front r ws m (omega arith))
+
+  -- a run's reading is done at its last symbol
+  pub run-reading : (n m k : ℕ) → m + n ≡ k → Run r room ws m k → rest r ws room m ≡ ending r ws k
+  unfolding concluded
+  run-reading zero m k e R =
+      let q : m ≡ k = omega arith in
+      rw q (step k (R .inside) ∙ rw (eq-eqb _ DONE (R .good k (R .from) (omega arith)), R .last))
+  run-reading (suc n) m k e R =
+      step m (omega (arith, R .inside))
+      ∙ rw (eq-eqb _ DONE (R .good m (omega arith) (omega arith)), R .more m (omega arith) (omega arith))
+      (run-reading n (suc m) k (omega arith)
+      (record { from = omega arith; inside = R .inside; good = λ j h. R .good j (omega arith); more = λ j h. R .more j (omega arith); last = R .last }))
+
+  -- a reading that is done is that of a run
+  pub reading-run : (n m place count : ℕ) (report : List ℕ) → m + n ≡ length ws → rest r ws room m ≡ done place report count → (k : ℕ) × Run r room ws m k × (ending r ws k ≡ done place report count)
+  unfolding concluded doneNumber
+  reading-run zero m place count report l e =
+      absurd (omega (arith, ap doneNumber (sym (rest-out r ws room m (omega arith)) ∙ e)))
+  reading-run (suc n) m place count report l e =
+      let q = sym (step m h) ∙ e in
+      by-test (eqb (symbolOf r (getD ws m []) .number) DONE)
+      (λ a. by-test (eqb x MORE)
+      (λ b. further (eqb-true _ _ a) (eqb-true _ _ b) (reading-run n (suc m) place count report (omega arith) (rw (a, b) at q)))
+      (λ b. by-test (eqb x DONE)
+      (λ c. (m, record { from = omega arith; inside = h; good = λ j u v. let w : j ≡ m = omega arith in rw w (eqb-true _ _ a); more = λ j u v. absurd (omega arith); last = eqb-true _ _ c }, rw (a, b, c) at q))
+      (λ c. absurd (omega (arith, ap doneNumber (rw (a, b, c) at q))))))
+      (λ a. absurd (omega (arith, ap doneNumber (rw a at q))))
+    where
+      h : m < length ws
+      h = omega arith
+
+      x : ℕ
+      x = verdict r room m (rawsTo r ws (suc m))
+
+      further : symbolOf r (getD ws m []) .number ≡ DONE → x ≡ MORE → (k : ℕ) × Run r room ws (suc m) k × (ending r ws k ≡ done place report count) → (k : ℕ) × Run r room ws m k × (ending r ws k ≡ done place report count)
+      further a b (k, R, o) = (
+        k,
+        record {
+          from = omega (arith, R .from);
+          inside = R .inside;
+          good = λ j u v. ⊎-elim (λ (w : m ≡ j). rw (← w) a) (λ (w : m < j). R .good j w v) (eq-or-lt-of-le u);
+          more = λ j u v. ⊎-elim (λ (w : m ≡ j). rw (← w) b) (λ (w : m < j). R .more j w v) (eq-or-lt-of-le u);
+          last = R .last;
+        },
+        o,
+      )

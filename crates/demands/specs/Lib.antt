@@ -1,0 +1,2 @@
+-- The words that the demands are stated with, over the definitions of the crates below.
+pub mod Words

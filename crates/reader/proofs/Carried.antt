@@ -1,0 +1,146 @@
+-- The hand carries the numbers of the symbols before it, and a symbol more keeps it so. Assumes nothing.
+use mathlib.Core.Path.{_≡_, refl, sym, ap, _∙_}
+use mathlib.Core.Bool.{true}
+use mathlib.Core.List.{List, [], _∷_, _++_}
+use Prim.Native.Nat.{ℕ, suc, _+_, _*_, _^_, _≤_, _<_}
+use native.Mathlib.Nat.{mod-eq-of-lt}
+use native.Mathlib.Omega.{arith}
+use lib.ListN.{length, getD, length-append, length-map}
+use lib.Seq.{getD-at}
+use lib.Pow.{pow-pos}
+use borrow.Author.Tests.{eqb-true, eqb-false, ne-eqb}
+use Rattle.codes.specs.Radio.{Radio, Sound}
+use Rattle.codes.specs.Symbol.{reads}
+use Rattle.codes.specs.declared.Symbol.{Symbol}
+use Rattle.codes.proofs.Tests.{by-test}
+use Rattle.frame.specs.Frame.{perOctet}
+use Rattle.frame.proofs.Count.{Below, below-append}
+use Rattle.reader.specs.declared.Hand.{Hand}
+use Rattle.reader.specs.Received.{rawAfter, decode, received, octetAt}
+use Rattle.reader.specs.Order.{ends, rules, values, repaired, verdict}
+use Rattle.reader.specs.Taking.{begun, rawOf, shifted, lengthAfter, moved}
+use Rattle.reader.proofs.Raw.{lastOf, last-snoc, last-below, decode-long, decode-snoc, decode-below, octet-stays, shifts, shifts-append, per-positive, last-octet}
+use Rattle.reader.proofs.Rules.{rules-same}
+
+pub record Carries (r : Radio) (before : List Symbol) (h : Hand) : Type 0 where
+  pub taken : h .taken ≡ length before
+  pub last : h .last ≡ lastOf 0 (values before)
+  pub octet : h .octet ≡ shifts r 0 (received r (values before))
+  pub late : 6 * perOctet r ≤ length before → h .length ≡ octetAt r 5 (received r (values before))
+  pub early : length before < 6 * perOctet r → h .length ≡ 0
+  pub count : h .count ≡ repaired before
+  pub below : Below (2 ^ r .bits) (values before)
+
+pub values-snoc : (xs : List Symbol) (x : Symbol) → values (xs ++ x ∷ []) ≡ values xs ++ x .value ∷ []
+values-snoc [] x = refl
+values-snoc (y ∷ xs) x = ap (λ (l : List ℕ). y .value ∷ l) (values-snoc xs x)
+
+pub repaired-append : (xs ys : List Symbol) → repaired (xs ++ ys) ≡ repaired xs + repaired ys
+unfolding repaired
+repaired-append [] ys = omega arith
+repaired-append (x ∷ xs) ys = omega (arith, repaired-append xs ys)
+
+repaired-snoc : (xs : List Symbol) (x : Symbol) → repaired (xs ++ x ∷ []) ≡ repaired xs + x .distance
+unfolding repaired
+repaired-snoc xs x = omega (arith, repaired-append xs (x ∷ []))
+
+pub values-long : (xs : List Symbol) → length (values xs) ≡ length xs
+values-long xs = length-map xs (λ (x : Symbol). x .value)
+
+-- the raw symbols with one symbol more
+pub received-snoc : (r : Radio) (xs : List Symbol) (x : Symbol) → received r (values (xs ++ x ∷ [])) ≡ received r (values xs) ++ rawAfter r (lastOf 0 (values xs)) (x .value) ∷ []
+received-snoc r xs x = ap (received r) (values-snoc xs x) ∙ decode-snoc r 0 (values xs) (x .value)
+
+pub received-long : (r : Radio) (xs : List Symbol) → length (received r (values xs)) ≡ length xs
+received-long r xs = decode-long r 0 (values xs) ∙ values-long xs
+
+module _ (r : Radio) (S : Sound r) where
+  pub carries-none : Carries r [] begun
+  unfolding decode repaired
+  carries-none =
+      record {
+        taken = refl;
+        last = refl;
+        octet = refl;
+        late = λ h. absurd (omega (arith, per-positive r S));
+        early = λ h. refl;
+        count = refl;
+        below = tt;
+      }
+
+  module _ (before : List Symbol) (h : Hand) (C : Carries r before h) (v d : ℕ) (lv : v < 2 ^ r .bits) where
+    abbrev after : List Symbol
+    after = before ++ reads v d ∷ []
+
+    -- the raw symbol
+    abbrev raw : ℕ
+    raw = rawAfter r (lastOf 0 (values before)) v
+
+    -- the raw symbols with it
+    abbrev bits : List ℕ
+    bits = received r (values after)
+
+    -- the octet in hand and n with it, as the code has them
+    abbrev octet : ℕ
+    octet = shifted r (h .octet) (rawOf r (h .last) v)
+
+    abbrev n : ℕ
+    n = lengthAfter (perOctet r) (h .taken) (h .length) octet
+
+    after-long : length after ≡ suc (length before)
+    after-long = length-append before (reads v d ∷ []) ∙ omega arith
+
+    bits-snoc : bits ≡ received r (values before) ++ raw ∷ []
+    bits-snoc = received-snoc r before (reads v d)
+
+    bits-long : length bits ≡ suc (length before)
+    bits-long = received-long r after ∙ after-long
+
+    after-below : Below (2 ^ r .bits) (values after)
+    after-below = rw (values-snoc before (reads v d)) (below-append (2 ^ r .bits) (values before) (v ∷ []) (C .below) (lv, tt))
+
+    raw-is : rawOf r (h .last) v ≡ raw
+    raw-is = rw (C .last, mod-eq-of-lt (last-below (2 ^ r .bits) 0 (values before) (pow-pos (r .bits)) (C .below)), mod-eq-of-lt lv)
+
+    octet-is : octet ≡ shifts r 0 bits
+    octet-is =
+        rw (raw-is, C .octet, bits-snoc) (sym (shifts-append r 0 (received r (values before)) (raw ∷ [])))
+
+    -- on the last symbol of octet k it is that octet
+    octet-ends : (k : ℕ) → ends (perOctet r) k (length before) ≡ true → octet ≡ octetAt r k bits
+    octet-ends k e = octet-is ∙ last-octet r S bits k (decode-below r S 0 (values after) after-below) (bits-long ∙ eqb-true _ _ e) .0
+
+    n-late : 6 * perOctet r ≤ suc (length before) → n ≡ octetAt r 5 bits
+    n-late l = rw (C .taken)
+        (by-test (ends (perOctet r) 5 (length before))
+        (λ e. rw e (octet-ends 5 e))
+        (λ e.
+        let m : 6 * perOctet r ≤ length before = omega (arith, eqb-false (suc (length before)) (6 * perOctet r) e) in
+        let b : 6 * perOctet r ≤ length (received r (values before)) = rw (received-long r before) m in
+        rw e (C .late m ∙ sym (ap (octetAt r 5) bits-snoc ∙ octet-stays r 5 (received r (values before)) (raw ∷ []) b))))
+
+    n-early : suc (length before) < 6 * perOctet r → n ≡ 0
+    n-early l = rw (C .taken, ne-eqb (suc (length before)) (6 * perOctet r) (λ e. omega arith)) (C .early (omega arith))
+
+    -- the code's rules are the reading order's
+    pub verdict-is : (room : ℕ) → rules (perOctet r) room (h .taken) (rawOf r (h .last) v) octet n ≡ verdict r room (length before) bits
+    verdict-is room =
+        let g : getD bits (length before) 0 ≡ rawOf r (h .last) v =
+        ap (λ (l : List ℕ). getD l (length before) 0) bits-snoc
+        ∙ getD-at (received r (values before)) raw [] 0 (length before) (received-long r before)
+        ∙ sym raw-is in
+        rw (g, C .taken)
+        (rules-same (perOctet r) room (length before) (rawOf r (h .last) v) octet (octetAt r 4 bits) (lengthAfter (perOctet r) (length before) (h .length) octet) (octetAt r 5 bits) (octet-ends 4) (λ l. rw (C .taken) at (n-late l)))
+
+    -- and one symbol more is carried
+    pub carries-more : suc (length before) < 2 ^ 32 → repaired before + d < 2 ^ 32 → (x : ℕ) → Carries r after (moved h x n d v octet)
+    carries-more a b x =
+        record {
+          taken = rw (C .taken, mod-eq-of-lt {n = length before + 1} {m = 2 ^ 32} (omega arith)) (omega (arith, after-long));
+          last = sym (ap (lastOf 0) (values-snoc before (reads v d)) ∙ last-snoc 0 (values before) v);
+          octet = octet-is;
+          late = λ l. n-late (omega (arith, after-long));
+          early = λ l. n-early (omega (arith, after-long));
+          count = rw (C .count, mod-eq-of-lt {n = repaired before + d} {m = 2 ^ 32} b) (sym (repaired-snoc before (reads v d)));
+          below = after-below;
+        }

@@ -1,0 +1,13 @@
+-- Laws of reading, leaves first.
+pub mod Below
+pub mod Rules
+pub mod Steps
+pub mod Raw
+pub mod Windows
+pub mod Carried
+pub mod Turns
+pub mod Gathered
+pub mod Scanning
+pub mod Scans
+pub mod Told
+pub mod Settled

@@ -1,0 +1,167 @@
+-- Rules 4 to 6: what each needs to be what is found, and what they look at. Assumes nothing.
+use mathlib.Core.Path.{_≡_, refl, sym, _∙_}
+use mathlib.Core.Bool.{Bool, true, false, not}
+use mathlib.Core.Logic.{_⊎_, inl, inr}
+use Prim.Native.Nat.{ℕ, suc, _+_, _*_, _≤_, _<_}
+use native.Mathlib.Nat.{mul-le-mul-right}
+use native.Mathlib.Omega.{arith}
+use lib.Dec.{eqb, leb, ltb}
+use borrow.Author.Tests.{lt-ltb, le-ltb, eq-eqb, ne-eqb, eqb-true, leb-true, leb-false, ltb-true, ltb-false, not-false}
+use Rattle.codes.specs.Numbers.{DONE, NOROOM, PREAMBLE, BADSTART, RESERVED, MORE}
+use Rattle.codes.specs.Chips.{pick}
+use Rattle.codes.proofs.Tests.{by-test, not-both}
+use Rattle.frame.specs.Frame.{startOctet}
+use Rattle.reader.specs.declared.Hand.{Hand}
+use Rattle.reader.specs.Order.{both, ends, rules}
+use Rattle.reader.specs.Taking.{stopped, moved, unless, roomed}
+
+-- one test and another
+pub neither : (a b : Bool) → (a ≡ true → b ≡ false) → both a b ≡ false
+neither true b f = f refl
+neither false b f = refl
+
+second : (a b : Bool) → both a b ≡ false → a ≡ true → b ≡ false
+second true b e t = e
+second false b e t = not-both false t refl
+
+-- where the code's sum is the definition's successor
+pub ends-is : (per k s m : ℕ) → m ≡ suc k * per → s + 1 ≡ m → ends per k s ≡ true
+ends-is per k s m e h = eq-eqb (suc s) (suc k * per) (omega arith)
+
+pub ends-not : (per k s m : ℕ) → m ≡ suc k * per → (s + 1 ≡ m → ⊥) → ends per k s ≡ false
+ends-not per k s m e h = ne-eqb (suc s) (suc k * per) (λ x. h (omega arith))
+
+-- the tests in order, with room for every report
+module _ (per s raw start n : ℕ) where
+  pub rules-7 : both (ltb s (4 * per)) (not (eqb raw 0)) ≡ true → rules per 127 s raw start n ≡ PREAMBLE
+  unfolding rules
+  rules-7 a = rw a
+
+  module _ (a : both (ltb s (4 * per)) (not (eqb raw 0)) ≡ false) where
+    pub rules-8 : both (ends per 4 s) (not (eqb start startOctet)) ≡ true → rules per 127 s raw start n ≡ BADSTART
+    unfolding rules
+    rules-8 b = rw (a, b)
+
+    module _ (b : both (ends per 4 s) (not (eqb start startOctet)) ≡ false) where
+      pub rules-9 : both (ends per 5 s) (ltb 127 n) ≡ true → rules per 127 s raw start n ≡ RESERVED
+      unfolding rules
+      rules-9 d = rw (a, b, d)
+
+      module _ (d : both (ends per 5 s) (ltb 127 n) ≡ false) where
+        pub rules-done : ends per (5 + n) s ≡ true → rules per 127 s raw start n ≡ DONE
+        unfolding rules
+        rules-done e = rw (a, b, d, e)
+
+        pub rules-more : ends per (5 + n) s ≡ false → rules per 127 s raw start n ≡ MORE
+        unfolding rules
+        rules-more e = rw (a, b, d, e)
+
+-- The start octet matters only on its last symbol, the length octet only from its last symbol on.
+module _ (per room s raw : ℕ) where
+  start-same : (o p n : ℕ) → (ends per 4 s ≡ true → o ≡ p) → rules per room s raw o n ≡ rules per room s raw p n
+  unfolding rules
+  start-same o p n e = by-test (ends per 4 s) (λ a. rw (e a)) (λ a. rw a)
+
+  early : suc s < 6 * per → (n : ℕ) → ends per (5 + n) s ≡ false
+  early h n = ne-eqb (suc s) (suc (5 + n) * per) (λ e. omega (arith, mul-le-mul-right per (six n)))
+    where
+      six : (n : ℕ) → 6 ≤ suc (5 + n)
+      six n = omega arith
+
+  length-same : (o m n : ℕ) → (6 * per ≤ suc s → m ≡ n) → rules per room s raw o m ≡ rules per room s raw o n
+  unfolding rules
+  length-same o m n e =
+      by-test (leb (6 * per) (suc s))
+      (λ a. rw (e (leb-true _ _ a)))
+      (λ a.
+      let h : suc s < 6 * per = leb-false (6 * per) (suc s) a in
+      rw (ne-eqb (suc s) (6 * per) (λ x. omega arith), early h m, early h n))
+
+  pub rules-same : (o p m n : ℕ) → (ends per 4 s ≡ true → o ≡ p) → (6 * per ≤ suc s → m ≡ n) → rules per room s raw o m ≡ rules per room s raw p n
+  rules-same o p m n e f = start-same o p m e ∙ length-same p m n f
+
+both-true : (a b : Bool) → both a b ≡ true → b ≡ true
+both-true true b e = e
+both-true false b e = not-both false e refl
+
+-- The reader's test of room, after the rules with room for every report, is the rules with its room.
+module _ (per room s raw o n d v : ℕ) (h : Hand) (l : h .length ≤ room) (m : ends per 5 s ≡ false → n ≤ room) where
+  abbrev next : ℕ → Hand
+  next x = unless x h (moved h x n d v o)
+
+  -- a refusal keeps n
+  kept : (x : ℕ) → roomed room h (stopped x h) ≡ stopped x h
+  kept x = rw (le-ltb room (h .length) l)
+
+  fits : both (ends per 5 s) (ltb room n) ≡ false → n ≤ room
+  fits e = by-test (ends per 5 s) (λ a. ltb-false room n (rw a at e)) m
+
+  pub rules-room : roomed room h (next (rules per 127 s raw o n)) ≡ next (rules per room s raw o n)
+  unfolding rules
+  rules-room =
+      by-test (both (ltb s (4 * per)) (not (eqb raw 0))) (λ a. rw a (kept PREAMBLE))
+      (λ a. by-test (both (ends per 4 s) (not (eqb o startOctet))) (λ b. rw (a, b) (kept BADSTART))
+      (λ b. by-test (both (ends per 5 s) (ltb 127 n)) (λ c. rw (a, b, c) (kept RESERVED))
+      (λ c. by-test (both (ends per 5 s) (ltb room n))
+      (λ e. by-test (ends per (5 + n) s) (λ f. rw (a, b, c, e, f, both-true (ends per 5 s) (ltb room n) e)) (λ f. rw (a, b, c, e, f, both-true (ends per 5 s) (ltb room n) e)))
+      (λ e. by-test (ends per (5 + n) s) (λ f. rw (a, b, c, e, f, le-ltb room n (fits e))) (λ f. rw (a, b, c, e, f, le-ltb room n (fits e)))))))
+
+-- nothing is wrong at symbol s
+pub record Clear (per room s raw start n : ℕ) : Type 0 where
+  pub preamble : s < 4 * per → raw ≡ 0
+  pub started : suc s ≡ 5 * per → start ≡ startOctet
+  pub reserved : suc s ≡ 6 * per → n ≤ 127
+  pub fits : suc s ≡ 6 * per → n ≤ room
+
+-- a refusal is neither number of a reading that goes on or ends
+unsaid : {P : Type 0} (x y : ℕ) → x ≡ y → (y ≡ MORE) ⊎ (y ≡ DONE) → DONE < x → x < MORE → P
+unsaid x y e (inl p) l h = absurd (omega arith)
+unsaid x y e (inr p) l h = absurd (omega arith)
+
+module _ (per room s raw start n : ℕ) where
+  last-test : eqb (suc s) (suc (5 + n) * per) ≡ eqb (suc s) ((6 + n) * per)
+  last-test = let e : suc (5 + n) ≡ 6 + n = omega arith in rw e
+
+  -- where nothing is wrong, the reading ends on the report's last symbol and else goes on
+  pub clear-rules : Clear per room s raw start n → rules per room s raw start n ≡ pick (eqb (suc s) ((6 + n) * per)) DONE MORE
+  unfolding rules
+  clear-rules C =
+      rw (
+        neither (ltb s (4 * per)) (not (eqb raw 0)) (λ t. rw (eq-eqb raw 0 (C .preamble (ltb-true _ _ t)))),
+        neither (ends per 4 s) (not (eqb start startOctet)) (λ t. rw (eq-eqb start startOctet (C .started (eqb-true _ _ t)))),
+        neither (ends per 5 s) (ltb 127 n) (λ t. le-ltb 127 n (C .reserved (eqb-true _ _ t))),
+        neither (ends per 5 s) (ltb room n) (λ t. le-ltb room n (C .fits (eqb-true _ _ t))),
+        last-test,
+      )
+
+  -- a number that refuses nothing is given only where nothing is wrong
+  pub rules-clear : (x : ℕ) → (x ≡ MORE) ⊎ (x ≡ DONE) → rules per room s raw start n ≡ x → Clear per room s raw start n
+  unfolding rules
+  rules-clear x g e =
+      go (both (ltb s (4 * per)) (not (eqb raw 0))) refl (both (ends per 4 s) (not (eqb start startOctet))) refl (both (ends per 5 s) (ltb 127 n)) refl (both (ends per 5 s) (ltb room n)) refl e
+    where
+      go : (a : Bool) → both (ltb s (4 * per)) (not (eqb raw 0)) ≡ a → (b : Bool) → both (ends per 4 s) (not (eqb start startOctet)) ≡ b
+          → (c : Bool) → both (ends per 5 s) (ltb 127 n) ≡ c → (d : Bool) → both (ends per 5 s) (ltb room n) ≡ d
+          → pick a PREAMBLE (pick b BADSTART (pick c RESERVED (pick d NOROOM (pick (ends per (5 + n) s) DONE MORE)))) ≡ x → Clear per room s raw start n
+      go true _ b _ c _ d _ e = unsaid PREAMBLE x e g (omega arith) (omega arith)
+      go false p true _ c _ d _ e = unsaid BADSTART x e g (omega arith) (omega arith)
+      go false p false q true _ d _ e = unsaid RESERVED x e g (omega arith) (omega arith)
+      go false p false q false u true _ e = unsaid NOROOM x e g (omega arith) (omega arith)
+      go false p false q false u false v e =
+          record {
+            preamble = λ h. eqb-true raw 0 (not-false _ (second _ _ p (lt-ltb s (4 * per) h)));
+            started = λ h. eqb-true start startOctet (not-false _ (second _ _ q (eq-eqb (suc s) (5 * per) h)));
+            reserved = λ h. ltb-false 127 n (second _ _ u (eq-eqb (suc s) (6 * per) h));
+            fits = λ h. ltb-false room n (second _ _ v (eq-eqb (suc s) (6 * per) h));
+          }
+
+  -- and it is DONE only on the report's last symbol
+  pub rules-last : rules per room s raw start n ≡ DONE → suc s ≡ (6 + n) * per
+  rules-last e =
+      by-test (eqb (suc s) ((6 + n) * per))
+      (λ t. eqb-true _ _ t)
+      (λ t. absurd (omega (arith, rw t at (sym (clear-rules (rules-clear DONE (inr refl) e)) ∙ e))))
+
+  -- and MORE only before it
+  pub rules-before : rules per room s raw start n ≡ MORE → suc s ≡ (6 + n) * per → ⊥
+  rules-before e l = omega (arith, sym (rw (eq-eqb (suc s) ((6 + n) * per) l) at (sym (clear-rules (rules-clear MORE (inl refl) e)) ∙ e)))

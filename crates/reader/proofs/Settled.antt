@@ -1,0 +1,28 @@
+-- The promises settle what they speak of: two outcomes that satisfy one are equal. Those of `read` and `keep` settle every byte of the
+-- lent buffer at exit; each speaks of the function's own contract, as `Settles` does. Assumes nothing.
+use mathlib.Core.Path.{_≡_}
+use contract.Lifetimes.{Lfts}
+use denote.Ref.{now}
+use denote.Triple.Clauses.{AtExit}
+use borrow.Fn.Kinds.{Dens, resT, endedOf}
+use Rattle.codes.proofs.Settled.{settled, Settles}
+use Rattle.frame.proofs.Settled.{both}
+use Rattle.reader.proofs.read.Kinds as read-kinds
+use Rattle.reader.proofs.read.Reads as read-promise
+use Rattle.reader.proofs.follow.Kinds as follow-kinds
+use Rattle.reader.proofs.follow.Reads as follow-promise
+use Rattle.reader.proofs.keep.Kinds as keep-kinds
+use Rattle.reader.proofs.keep.Reads as keep-promise
+
+-- `s .1 .1 .0` is the third parameter, the report buffer, at exit
+pub read-settled : (κs : Lfts 2) (a : Dens κs read-kinds.ps) (p q : resT read-kinds.r κs .Denot) (s t : AtExit (endedOf 2 read-kinds.ps read-kinds.r) κs)
+    → read-promise.Post κs a p s → read-promise.Post κs a q t → (p ≡ q) × (now (s .1 .1 .0) ≡ now (t .1 .1 .0))
+read-settled κs a p q s t e f = both p q _ _ (settled _ _ e f)
+
+pub follow-settled : Settles 0 follow-kinds.ps follow-kinds.r follow-promise.Post
+follow-settled κs a p q s t = settled p q
+
+-- the third parameter, the octets, at exit
+pub keep-settled : (κs : Lfts 1) (a : Dens κs keep-kinds.ps) (p q : resT keep-kinds.r κs .Denot) (s t : AtExit (endedOf 1 keep-kinds.ps keep-kinds.r) κs)
+    → keep-promise.Post κs a p s → keep-promise.Post κs a q t → now (s .1 .1 .0) ≡ now (t .1 .1 .0)
+keep-settled κs a p q s t = settled _ _

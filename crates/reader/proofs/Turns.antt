@@ -1,0 +1,203 @@
+-- One turn of the reader's loop over plain values: a hand that carries the symbols before, and a symbol, give a hand that carries
+-- one more, or the reading's answer. Assumes nothing.
+use mathlib.Core.Path.{_≡_, refl, sym, ap, _∙_, subst}
+use mathlib.Core.List.{List, [], _∷_, _++_}
+use mathlib.Core.Logic.{_⊎_, inl, inr}
+use Prim.Native.Nat.{ℕ, suc, _+_, _*_, _%_, _^_, _≤_, _<_}
+use native.Mathlib.Nat.{mod-eq-of-lt, mul-le-mul-right, mul-suc}
+use native.Mathlib.Omega.{arith}
+use lib.ListN.{length}
+use lib.Dec.{eqb, ltb}
+use borrow.Author.Tests.{le-ltb, eq-eqb, ne-eqb, eqb-true, eqb-false}
+use Rattle.codes.specs.Numbers.{DONE, MORE}
+use Rattle.codes.specs.Chips.{pick, bad}
+use Rattle.codes.specs.Radio.{Radio, Sound}
+use Rattle.codes.specs.Symbol.{reads, within, first, valued, symbolOf}
+use Rattle.codes.specs.declared.Symbol.{Symbol}
+use Rattle.codes.proofs.Tests.{by-test}
+use Rattle.codes.proofs.Unique.{of-symbol}
+use Rattle.frame.specs.Frame.{perOctet}
+use Rattle.reader.specs.declared.Hand.{Hand}
+use Rattle.reader.specs.Received.{received}
+use Rattle.reader.specs.Order.{Answer, done, ends, rules, values, repaired, verdict, reportIn, concluded, taking}
+use Rattle.reader.specs.Order as order
+use Rattle.reader.specs.Taking.{begun, stopped, rawOf, shifted, lengthAfter, moved, unless, advanced, roomed}
+use Rattle.reader.proofs.Raw.{per-positive}
+use Rattle.reader.proofs.Rules.{Clear, rules-clear, rules-last, rules-before, rules-room}
+use Rattle.reader.proofs.Steps.{goes, stops}
+use Rattle.reader.proofs.Carried.{Carries, verdict-is, carries-more}
+
+-- the hand wants more: it is before the end of its frame, whose report has room; so its numbers are small
+pub record Open (r : Radio) (room : ℕ) (h : Hand) : Type 0 where
+  pub number : h .number ≡ MORE
+  pub under : h .taken < (6 + h .length) * perOctet r
+  pub fits : h .length ≤ room
+  pub few : h .length ≤ 127
+  pub low : h .count ≤ r .limit * h .taken
+
+pub open-begun : (r : Radio) → Sound r → (room : ℕ) → Open r room begun
+open-begun r S room =
+    record {
+      number = refl;
+      under = omega (arith, per-positive r S);
+      fits = omega arith;
+      few = omega arith;
+      low = omega arith;
+    }
+
+-- what a symbol x after the symbols before it makes of the hand
+module _ (r : Radio) (room : ℕ) (before : List Symbol) (x : Symbol) (g : Hand) where
+  -- the next symbol is wanted
+  pub record On : Type 0 where
+    pub carries : Carries r (before ++ x ∷ []) g
+    pub goes : Open r room g
+    pub same : (next : Answer) → taking r room before x next ≡ next
+
+  -- the frame is complete
+  pub record Over : Type 0 where
+    pub number : g .number ≡ DONE
+    pub carries : Carries r (before ++ x ∷ []) g
+    pub total : g .taken ≡ (6 + g .length) * perOctet r
+    pub fits : g .length ≤ room
+    pub few : g .length ≤ 127
+    pub same : (next : Answer) → taking r room before x next ≡ done (suc (length before)) (reportIn r (received r (values (before ++ x ∷ [])))) (repaired (before ++ x ∷ []))
+
+  -- refused
+  pub record Off : Type 0 where
+    pub more : g .number ≡ MORE → ⊥
+    pub over : g .number ≡ DONE → ⊥
+    pub taken : g .taken ≡ length before
+    pub same : (next : Answer) → taking r room before x next ≡ order.refused (g .number) (length before)
+
+  abbrev pub Turned : Type 0
+  Turned = On ⊎ (Over ⊎ Off)
+
+-- the numbers of a symbol
+symbol-number : (r : Radio) (w : List ℕ) → symbolOf r w .number ≡ MORE → ⊥
+unfolding symbolOf valued
+symbol-number r w e =
+    by-test (bad w) (λ a. omega (arith, rw a at e))
+    (λ a. by-test (ltb (first (within r w) 0 (length (r .words))) (length (r .words))) (λ b. omega (arith, rw (a, b) at e)) (λ b. omega (arith, rw (a, b) at e)))
+
+module _ (r : Radio) (S : Sound r) (few : perOctet r ≤ 8) (low : r .limit ≤ 255) (room : ℕ) (before : List Symbol) (h : Hand) (C : Carries r before h) (O : Open r room h) where
+  -- symbols before the end of the longest frame
+  early : h .taken < 1064
+  early = omega (arith, O .under, mul-le-mul-right (perOctet r) (more (h .length) (O .few)))
+    where
+      more : (n : ℕ) → n ≤ 127 → 6 + n ≤ 133
+      more n l = omega arith
+
+  module _ (v d : ℕ) (lv : v < 2 ^ r .bits) (ld : d ≤ r .limit) where
+    abbrev octet : ℕ
+    octet = shifted r (h .octet) (rawOf r (h .last) v)
+
+    abbrev n : ℕ
+    n = lengthAfter (perOctet r) (h .taken) (h .length) octet
+
+    abbrev found : ℕ
+    found = verdict r room (length before) (received r (values (before ++ reads v d ∷ [])))
+
+    abbrev code : ℕ → ℕ
+    code m = rules (perOctet r) m (h .taken) (rawOf r (h .last) v) octet n
+
+    -- the hand that the code makes is moved or stopped by the reading order's number
+    found-hand : roomed room h (advanced r h v d) ≡ unless found h (moved h found n d v octet)
+    unfolding advanced
+    found-hand =
+        rules-room (perOctet r) room (h .taken) (rawOf r (h .last) v) octet n d v h (O .fits) (λ e. rw e (O .fits))
+        ∙ ap (λ (y : ℕ). unless y h (moved h y n d v octet)) (verdict-is r S before h C v d lv room)
+
+    -- n has room, on the last symbol of the length octet by the rules, else as before
+    n-fits : Clear (perOctet r) room (h .taken) (rawOf r (h .last) v) octet n → (n ≤ room) × (n ≤ 127)
+    n-fits p =
+        by-test (ends (perOctet r) 5 (h .taken))
+        (λ e. (p .fits (eqb-true _ _ e), p .reserved (eqb-true _ _ e)))
+        (λ e. (rw e (O .fits), rw e (O .few)))
+
+    -- this symbol is one of the frame's
+    reached : suc (h .taken) ≤ (6 + n) * perOctet r
+    reached =
+        by-test (ends (perOctet r) 5 (h .taken))
+        (λ e. omega (arith, eqb-true (suc (h .taken)) (6 * perOctet r) e, mul-le-mul-right (perOctet r) (six n)))
+        (λ e. rw e (O .under))
+      where
+        six : (m : ℕ) → 6 ≤ 6 + m
+        six m = omega arith
+
+    taken-more : (h .taken + 1) % 2 ^ 32 ≡ suc (h .taken)
+    taken-more = mod-eq-of-lt {n = h .taken + 1} {m = 2 ^ 32} (omega (arith, early)) ∙ omega arith
+
+    count-small : h .count + d < 2 ^ 32
+    count-small = omega (arith, early, O .low, ld, low, mul-le-mul-right (h .taken) low)
+
+    count-more : (h .count + d) % 2 ^ 32 ≡ h .count + d
+    count-more = mod-eq-of-lt {n = h .count + d} {m = 2 ^ 32} count-small
+
+    carried : (y : ℕ) → Carries r (before ++ reads v d ∷ []) (moved h y n d v octet)
+    carried y = carries-more r S before h C v d lv (omega (arith, early, C .taken)) (rw (← C .count) count-small) y
+
+    code-is : code room ≡ found
+    code-is = verdict-is r S before h C v d lv room
+
+    on : found ≡ MORE → On r room before (reads v d) (moved h found n d v octet)
+    unfolding taking concluded
+    on f =
+        let p = n-fits (rules-clear (perOctet r) room (h .taken) (rawOf r (h .last) v) octet n MORE (inl refl) (code-is ∙ f)) in
+        record {
+          carries = carried found;
+          goes =
+              record {
+                number = f;
+                under = rw taken-more (omega (arith, reached, rules-before (perOctet r) room (h .taken) (rawOf r (h .last) v) octet n (code-is ∙ f)));
+                fits = p .0;
+                few = p .1;
+                low = rw (taken-more, count-more) (omega (arith, O .low, ld, mul-suc (r .limit) (h .taken)));
+              };
+          same = λ next. rw (eq-eqb found MORE f);
+        }
+
+    over : found ≡ DONE → Over r room before (reads v d) (moved h found n d v octet)
+    unfolding taking concluded
+    over f =
+        let p = n-fits (rules-clear (perOctet r) room (h .taken) (rawOf r (h .last) v) octet n DONE (inr refl) (code-is ∙ f)) in
+        record {
+          number = f;
+          carries = carried found;
+          total = rw taken-more (rules-last (perOctet r) room (h .taken) (rawOf r (h .last) v) octet n (code-is ∙ f));
+          fits = p .0;
+          few = p .1;
+          same = λ next. rw f;
+        }
+
+    off : (found ≡ MORE → ⊥) → (found ≡ DONE → ⊥) → Off r room before (reads v d) (stopped found h)
+    unfolding taking concluded
+    off a b = record { more = a; over = b; taken = C .taken; same = λ next. rw (ne-eqb found MORE a, ne-eqb found DONE b) }
+
+    value-turned : (g : Hand) → g ≡ roomed room h (advanced r h v d) → Turned r room before (reads v d) g
+    value-turned g e =
+        by-test (eqb found MORE)
+        (λ a. let f = eqb-true found MORE a in
+        inl (rw (e, found-hand, goes found h (moved h found n d v octet) (inl f)) (on f)))
+        (λ a. by-test (eqb found DONE)
+        (λ b. let f = eqb-true found DONE b in
+        inr (inl (rw (e, found-hand, goes found h (moved h found n d v octet) (inr f)) (over f))))
+        (λ b. let p = eqb-false found MORE a in
+        let q = eqb-false found DONE b in
+        inr (inr (rw (e, found-hand, stops found h (moved h found n d v octet) p q) (off p q)))))
+
+  -- a symbol that is refused ends the reading
+  refused-turned : (x : Symbol) → (x .number ≡ MORE → ⊥) → (x .number ≡ DONE → ⊥) → (g : Hand) → g ≡ roomed room h (stopped (x .number) h) → Turned r room before x g
+  unfolding taking
+  refused-turned x a b g e =
+      inr (inr (rw (e, le-ltb room (h .length) (O .fits)) (record { more = a; over = b; taken = C .taken; same = λ next. rw (ne-eqb (x .number) DONE b) })))
+
+  -- one turn, with the symbol of a window
+  pub turned : (w : List ℕ) (x : Symbol) → x ≡ symbolOf r w → (g : Hand)
+      → g ≡ roomed room h (pick (eqb (x .number) DONE) (advanced r h (x .value) (x .distance)) (stopped (x .number) h)) → Turned r room before x g
+  turned w x i g e =
+      by-test (eqb (x .number) DONE)
+      (λ a.
+      let q : x ≡ reads (x .value) (x .distance) = ap (λ (n : ℕ). record { number = n; value = x .value; distance = x .distance }) (eqb-true (x .number) DONE a) in
+      let t = of-symbol r w (x .value) (x .distance) (sym i ∙ q) in
+      subst (λ (y : Symbol). Turned r room before y g) (sym q) (value-turned (x .value) (x .distance) (rw (S .many) at (t .known)) (t .near) g (rw a at e)))
+      (λ a. refused-turned x (λ m. symbol-number r w (ap (λ (y : Symbol). y .number) (sym i) ∙ m)) (eqb-false (x .number) DONE a) g (rw a at e))

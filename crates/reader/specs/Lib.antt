@@ -1,0 +1,6 @@
+-- What a reader must believe of reading: raw symbols and octets of the values read, the reading order, the reader's answer. `Taking`
+-- is not among it: it is what the code carries from symbol to symbol, shown equal.
+pub mod Received
+pub mod Order
+pub mod Read
+pub mod Taking

@@ -1,0 +1,103 @@
+-- Not to be believed: what the code carries from symbol to symbol, a record of numbers. That the numbers are those of the symbols
+-- before is shown in proofs/Carried.antt, that following them is the reading order in proofs/Turns.antt and
+-- proofs/Scanning.antt. It is total: whatever the numbers are, they are reduced or wrap, and no sum overflows.
+use mathlib.Core.Path.{_≡_}
+use Prim.Native.Nat.{ℕ, suc, _+_, _-_, _*_, _/_, _%_, _^_, _≤_}
+use mathlib.Core.List.{List, []}
+use lib.ListN.{length, take, set}
+use lib.Dec.{eqb, leb, ltb}
+use Rattle.codes.specs.Numbers.{DONE, BADMODE, NOROOM, RUNOUT, MORE}
+use Rattle.codes.specs.Chips.{pick}
+use Rattle.codes.specs.Radio.{Radio, known, radioOf}
+use Rattle.codes.specs.declared.Symbol.{Symbol}
+use Rattle.frame.specs.Frame.{perOctet}
+use Rattle.reader.specs.declared.Hand.{Hand}
+use Rattle.reader.specs.declared.Reading.{Reading}
+use Rattle.reader.specs.Received.{rawAfter}
+use Rattle.reader.specs.Order.{Answer, refused, done, both, ends, rules, reading}
+use Rattle.reader.specs.Read.{told}
+
+-- before the first symbol
+abbrev pub begun : Hand
+begun = record { number = MORE; taken = 0; length = 0; count = 0; last = 0; octet = 0 }
+
+-- ended with a number, all else as it was
+abbrev pub stopped : ℕ → Hand → Hand
+stopped x h =
+    record { number = x; taken = h .taken; length = h .length; count = h .count; last = h .last; octet = h .octet }
+
+-- the raw symbol of a value, after a last one
+abbrev pub rawOf : Radio → ℕ → ℕ → ℕ
+rawOf r last v = rawAfter r (last % 2 ^ r .bits) (v % 2 ^ r .bits)
+
+-- the octet in hand: a raw symbol enters at the top, and what was there moves down
+abbrev pub shifted : Radio → ℕ → ℕ → ℕ
+shifted r octet raw = octet % 256 / 2 ^ r .bits + raw * (256 / 2 ^ r .bits)
+
+-- n, which the last symbol of the length octet brings
+abbrev pub lengthAfter : ℕ → ℕ → ℕ → ℕ → ℕ
+lengthAfter per s n octet = pick (ends per 5 s) octet n
+
+-- one symbol more, with its number, n, distance, value and octet
+abbrev pub moved : Hand → ℕ → ℕ → ℕ → ℕ → ℕ → Hand
+moved h x n d v octet =
+    record { number = x; taken = (h .taken + 1) % 2 ^ 32; length = n; count = (h .count + d) % 2 ^ 32; last = v; octet = octet }
+
+-- go on or done: moved; else stopped
+abbrev pub unless : ℕ → Hand → Hand → Hand
+unless x h next = pick (eqb x MORE) next (pick (eqb x DONE) next (stopped x h))
+
+-- by the rules with room for every report
+abbrev pub ruled : ℕ → Hand → ℕ → ℕ → ℕ → ℕ → ℕ → Hand
+ruled per h raw octet n d v = unless (rules per 127 (h .taken) raw octet n) h (moved h (rules per 127 (h .taken) raw octet n) n d v octet)
+
+abbrev pub shiftedBy : Radio → Hand → ℕ → ℕ → ℕ → Hand
+shiftedBy r h raw d v =
+    ruled (perOctet r) h raw (shifted r (h .octet) raw) (lengthAfter (perOctet r) (h .taken) (h .length) (shifted r (h .octet) raw)) d v
+
+-- a symbol's value and distance taken
+unfoldable pub advanced : Radio → Hand → ℕ → ℕ → Hand
+advanced r h v d = shiftedBy r h (rawOf r (h .last) v) d v
+
+-- what follows a match
+unfoldable pub followed : ℕ → Hand → Symbol → Hand
+followed mode h x =
+    pick (known mode)
+    (pick (eqb (x .number) DONE) (advanced (radioOf mode) h (x .value) (x .distance)) (stopped (x .number) h))
+    (stopped BADMODE h)
+
+-- a report buffer shorter than n
+abbrev pub roomed : ℕ → Hand → Hand → Hand
+roomed room h next = pick (ltb room (next .length)) (stopped NOROOM h) next
+
+-- the octets of the report, with the one in hand where it is whole and one of them
+abbrev pub keptIn : ℕ → Hand → List ℕ → List ℕ
+keptIn per h octets =
+    pick (leb (7 * per) (h .taken))
+    (pick (eqb (h .taken % per) 0) (pick (ltb (h .taken / per - 7) 127) (set octets (h .taken / per - 7) (h .octet % 256)) octets) octets)
+    octets
+
+unfoldable pub keptAt : ℕ → Hand → List ℕ → List ℕ
+keptAt mode h octets = pick (known mode) (keptIn (perOctet (radioOf mode)) h octets) octets
+
+-- the answer of a hand that has ended, or whose chips have run out
+abbrev pub stoppedAt : ℕ → ℕ → Reading
+stoppedAt x place = record { number = x; place = place; n = 0; count = 0 }
+
+unfoldable pub toldBy : Hand → Reading
+toldBy h =
+    pick (eqb (h .number) MORE) (stoppedAt RUNOUT (h .taken))
+    (pick (eqb (h .number) DONE) (record { number = DONE; place = h .taken; n = h .length; count = h .count })
+    (stoppedAt (h .number) (h .taken)))
+
+abbrev pub reportOf : Answer → List ℕ
+reportOf (refused x place) = []
+reportOf (done place report count) = report
+
+-- the hand tells a reading's answer, and the octets gathered begin with its report
+pub record Scanned (r : Radio) (room : ℕ) (chips : List ℕ) (octets : List ℕ) (h : Hand) : Type 0 where
+  pub tells : toldBy h ≡ told (reading r room chips)
+  pub holds : take (length (reportOf (reading r room chips))) octets ≡ reportOf (reading r room chips)
+  pub fits : toldBy h .n ≤ room
+  pub few : toldBy h .n ≤ 127
+  pub long : length octets ≡ 127

@@ -1,0 +1,277 @@
+// The reader: a chip buffer to the report or a numbered refusal, by the reading order. A loop over symbols around a loop over
+// chips; between symbols it carries a few numbers, the hand, which are those of the symbols before (proofs/Carried.antt), so that
+// what is still to be read stays the whole reading's answer (proofs/Scanning.antt).
+ghost use mathlib.Core.Path.{_≡_};
+ghost use mathlib.Core.Bool.{true};
+ghost use Prim.Native.Nat.{_+_, _*_, _≤_, _<_};
+ghost use lib.ListN.{length};
+ghost use lib.Seq.{paste};
+ghost use Rattle.codes.specs.Radio.{known, radioOf};
+ghost use Rattle.frame.specs.Outcome.{outcome};
+ghost use Rattle.reader.specs.Order.{rules};
+ghost use Rattle.reader.specs.Read.{readOf};
+ghost use Rattle.reader.specs.Taking.{begun, stopped, rawOf, shifted, lengthAfter, moved, unless, followed, roomed, keptAt, toldBy, stoppedAt, Scanned};
+
+// What the reader gives back: 0, the number of symbols in the frame, the report's length and the number of chips repaired; or a
+// refusal, the number of the symbol where it stands, 0 and 0.
+#[repr(C)]
+pub struct Reading {
+    pub number: u32,
+    pub place: u32,
+    pub n: u32,
+    pub count: u32,
+}
+
+// What is carried from symbol to symbol: 13 while more is wanted, else 0 or the refusal; symbols taken; n once it is read, 0
+// before; chips repaired; the last symbol's value; the octet in hand.
+pub struct Hand {
+    pub number: u32,
+    pub taken: u32,
+    pub length: u32,
+    pub count: u32,
+    pub last: u32,
+    pub octet: u32,
+}
+
+// Reads the frame of the mode's radio that the chips begin with, and stores its report. The octets gather aside and are stored
+// once: n is 0 on a refusal, so then nothing is.
+pub fn read(mode: u32, chips: &[u8], report: &mut [u8]) -> Reading
+    ensures { λ r. ⌜ outcome r (now (report .exit)) ≡ readOf mode (now (chips .entry)) (now (report .entry)) ⌝ }
+{
+    if codes::size_of(mode) == 0 {
+        return refusal(codes::BADMODE, 0);
+    }
+    let mut octets = [0u8; 127];
+    let hand = scan(mode, chips, report.len(), &mut octets);
+    let answer = tell(hand);
+    store(&octets, answer.n as usize, report);
+    answer
+}
+
+// The reading order over the buffer. The test of the bytes has no exit, which makes it fast; the loop behind it finds the byte
+// that is no chip.
+fn scan(mode: u32, chips: &[u8], room: usize, octets: &mut [u8; 127]) -> Hand
+    requires { ⌜ (known mode ≡ true) × (length (now octets) ≡ 127) ⌝ }
+    ensures { λ r. ⌜ Scanned (radioOf mode) room (now (chips .entry)) (now (octets .exit)) r ⌝ }
+{
+    let words = codes::table(mode);
+    let size = codes::size_of(mode);
+    let mut hand = begin();
+    let mut at: usize = 0;
+    'symbols: while size <= chips.len() - at {
+        if codes::bad_symbol(mode, chips, at) {
+            let mut k: usize = 0;
+            'chips: while k < size {
+                if 1 < chips[at + k] {
+                    hand = stop(codes::NOCHIP, hand);
+                    break 'symbols;
+                }
+                k += 1;
+            }
+        }
+        let next = follow(mode, hand, codes::matched(mode, &words, chips, at));
+        hand = with_room(room, hand, next);
+        keep(mode, hand, octets);
+        if hand.number != codes::MORE {
+            break 'symbols;
+        }
+        at += size;
+    }
+    hand
+}
+
+// Before the first symbol.
+fn begin() -> Hand
+    ensures { λ r. ⌜ r ≡ begun ⌝ }
+{
+    Hand {
+        number: codes::MORE,
+        taken: 0,
+        length: 0,
+        count: 0,
+        last: 0,
+        octet: 0,
+    }
+}
+
+// Ends with a number; all else stays as it was before the symbol.
+fn stop(number: u32, hand: Hand) -> Hand
+    ensures { λ r. ⌜ r ≡ stopped number hand ⌝ }
+{
+    Hand {
+        number,
+        taken: hand.taken,
+        length: hand.length,
+        count: hand.count,
+        last: hand.last,
+        octet: hand.octet,
+    }
+}
+
+// What follows a match, at the symbol after those taken: 1 and 6 to 9 in that order, 0 where the frame is complete, 13 where
+// more is wanted. A refusal leaves the other numbers as they were.
+pub fn follow(mode: u32, hand: Hand, symbol: codes::Symbol) -> Hand
+    ensures { λ r. ⌜ r ≡ followed mode hand symbol ⌝ }
+{
+    let per = frame::per_octet(mode);
+    if per == 0 {
+        return stop(codes::BADMODE, hand);
+    }
+    if symbol.number != codes::DONE {
+        return stop(symbol.number, hand);
+    }
+    let raw = raw_of(mode, hand.last, symbol.value);
+    let octet = shift(mode, hand.octet, raw);
+    let length = length_after(per, hand.taken, hand.length, octet);
+    let number = rule(per, hand.taken, raw, octet, length);
+    advance(hand, number, length, symbol, octet)
+}
+
+// One symbol more, unless the number is a refusal.
+fn advance(hand: Hand, number: u32, length: u32, symbol: codes::Symbol, octet: u32) -> Hand
+    ensures { λ r. ⌜ r ≡ unless number hand (moved hand number length (symbol .distance) (symbol .value) octet) ⌝ }
+{
+    if number != codes::MORE {
+        if number != codes::DONE {
+            return stop(number, hand);
+        }
+    }
+    Hand {
+        number,
+        taken: std::num::wrapping_add_u32(hand.taken, 1),
+        length,
+        count: std::num::wrapping_add_u32(hand.count, symbol.distance),
+        last: symbol.value,
+        octet,
+    }
+}
+
+// The raw symbol of a value, after the last one.
+fn raw_of(mode: u32, last: u32, value: u32) -> u32
+    requires { ⌜ known mode ≡ true ⌝ }
+    ensures { λ r. ⌜ r ≡ rawOf (radioOf mode) last value ⌝ }
+{
+    if mode == 0 {
+        (last % 2 + value % 2) % 2
+    } else {
+        value % 16
+    }
+}
+
+// The octet in hand: the raw symbol enters at the top, and what was there moves down.
+fn shift(mode: u32, octet: u32, raw: u32) -> u32
+    requires { ⌜ (known mode ≡ true) × (raw < 16) ⌝ }
+    ensures { λ r. ⌜ r ≡ shifted (radioOf mode) octet raw ⌝ }
+{
+    if mode == 0 {
+        octet % 256 / 2 + raw * 128
+    } else {
+        octet % 256 / 16 + raw * 16
+    }
+}
+
+// n, which the last symbol of the length octet brings.
+fn length_after(per: usize, taken: u32, length: u32, octet: u32) -> u32
+    requires { ⌜ per ≤ 8 ⌝ }
+    ensures { λ r. ⌜ r ≡ lengthAfter per taken length octet ⌝ }
+{
+    if taken as usize + 1 == 6 * per {
+        octet
+    } else {
+        length
+    }
+}
+
+// Rules 4 to 6 with room for every report: 7, 8, 9, then 0 on the last symbol of the frame, else 13.
+fn rule(per: usize, taken: u32, raw: u32, octet: u32, n: u32) -> u32
+    requires { ⌜ per ≤ 8 ⌝ }
+    ensures { λ r. ⌜ r ≡ rules per 127 taken raw octet n ⌝ }
+{
+    let s = taken as usize;
+    if s < 4 * per && raw != 0 {
+        return codes::PREAMBLE;
+    }
+    if s + 1 == 5 * per && octet != 0xA7 {
+        return codes::BADSTART;
+    }
+    if s + 1 == 6 * per && 127 < n {
+        return codes::RESERVED;
+    }
+    if s + 1 == (6 + n as usize) * per {
+        return codes::DONE;
+    }
+    codes::MORE
+}
+
+// A report buffer shorter than n: 3.
+fn with_room(room: usize, hand: Hand, next: Hand) -> Hand
+    ensures { λ r. ⌜ r ≡ roomed room hand next ⌝ }
+{
+    if room < next.length as usize {
+        return stop(codes::NOROOM, hand);
+    }
+    next
+}
+
+// Keeps the octet in hand where it is whole and one of the report's.
+pub fn keep(mode: u32, hand: Hand, octets: &mut [u8; 127])
+    ensures { λ _. ⌜ now (octets .exit) ≡ keptAt mode hand (now (octets .entry)) ⌝ }
+{
+    let per = frame::per_octet(mode);
+    if per == 0 {
+        return;
+    }
+    let taken = hand.taken as usize;
+    if taken < 7 * per {
+        return;
+    }
+    if taken % per != 0 {
+        return;
+    }
+    let k = taken / per - 7;
+    if k < 127 {
+        octets[k] = (hand.octet % 256) as u8;
+    }
+}
+
+// The answer of a hand that has ended, or whose chips have run out.
+fn tell(hand: Hand) -> Reading
+    ensures { λ r. ⌜ r ≡ toldBy hand ⌝ }
+{
+    if hand.number == codes::MORE {
+        return refusal(codes::RUNOUT, hand.taken);
+    }
+    if hand.number != codes::DONE {
+        return refusal(hand.number, hand.taken);
+    }
+    Reading {
+        number: codes::DONE,
+        place: hand.taken,
+        n: hand.length,
+        count: hand.count,
+    }
+}
+
+// A refusal's n and count are 0.
+fn refusal(number: u32, place: u32) -> Reading
+    ensures { λ r. ⌜ r ≡ stoppedAt number place ⌝ }
+{
+    Reading {
+        number,
+        place,
+        n: 0,
+        count: 0,
+    }
+}
+
+// The first n octets over the first n bytes.
+fn store(octets: &[u8; 127], n: usize, report: &mut [u8])
+    requires { ⌜ (n ≤ 127) × (length (now octets) ≡ 127) × (n ≤ length (now report)) ⌝ }
+    ensures { λ _. ⌜ now (report .exit) ≡ paste (now (report .entry)) 0 (now (octets .entry)) n ⌝ }
+{
+    let mut k: usize = 0;
+    while k < n {
+        report[k] = octets[k];
+        k += 1;
+    }
+}

@@ -1,0 +1,100 @@
+// One reading, one line: the case, what was asked, the four numbers, how many bytes of the lent buffer changed and, where done,
+// whether the report is the one sent, and its octets.
+use crate::damage::fill;
+use crate::number;
+use libc::STDOUT_FILENO;
+
+// What the lent buffer holds before each reading. No octet that is sent has this value, so a stored one is a changed one.
+const BEFORE: u8 = 0xEE;
+
+// Reads so many chips of the buffer into so much of the room.
+pub fn read_line(
+    what: &[u8],
+    mode: u32,
+    chips: &[u8],
+    count: usize,
+    sent: &[u8],
+    lent: &mut [u8],
+    room: usize,
+) {
+    if chips.len() < count {
+        return;
+    }
+    if lent.len() < room {
+        return;
+    }
+    fill(lent, BEFORE);
+    asked(what, mode, count, room);
+    let reading = reader::read(mode, &chips[..count], &mut lent[..room]);
+    answered(reading, sent, lent);
+}
+
+fn asked(what: &[u8], mode: u32, count: usize, room: usize) {
+    io::write_all(STDOUT_FILENO, what);
+    io::write_all(STDOUT_FILENO, b": read ");
+    number(mode as u64, b" chips ");
+    number(count as u64, b" room ");
+    number(room as u64, b" gives ");
+}
+
+fn answered(reading: reader::Reading, sent: &[u8], lent: &[u8]) {
+    number(reading.number as u64, b" ");
+    number(reading.place as u64, b" ");
+    number(reading.n as u64, b" ");
+    number(reading.count as u64, b", ");
+    number(changed(lent) as u64, b" changed");
+    if reading.number == codes::DONE {
+        told(reading.n as usize, sent, lent);
+    }
+    io::write_all(STDOUT_FILENO, b"\n");
+}
+
+fn changed(lent: &[u8]) -> usize {
+    let mut count: usize = 0;
+    let mut i: usize = 0;
+    while i < lent.len() {
+        if lent[i] != BEFORE {
+            count += 1;
+        }
+        i += 1;
+    }
+    count
+}
+
+// The first n octets of the lent buffer.
+fn told(n: usize, sent: &[u8], lent: &[u8]) {
+    if lent.len() < n {
+        return;
+    }
+    let report = &lent[..n];
+    if same(report, sent) {
+        io::write_all(STDOUT_FILENO, b", as sent [");
+    } else {
+        io::write_all(STDOUT_FILENO, b", not as sent [");
+    }
+    hex(report);
+    io::write_all(STDOUT_FILENO, b"]");
+}
+
+fn same(a: &[u8], b: &[u8]) -> bool {
+    if a.len() != b.len() {
+        return false;
+    }
+    let mut i: usize = 0;
+    while i < a.len() {
+        if a[i] != b[i] {
+            return false;
+        }
+        i += 1;
+    }
+    true
+}
+
+// Two digits an octet.
+fn hex(octets: &[u8]) {
+    let mut i: usize = 0;
+    while i < octets.len() {
+        io::print_hex(STDOUT_FILENO, octets[i] as u64, 2);
+        i += 1;
+    }
+}
