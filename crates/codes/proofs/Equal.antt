@@ -14,7 +14,7 @@ use Rattle.codes.specs.Numbers.{BADMODE, RUNOUT, NOCHIP}
 use Rattle.codes.specs.Chips.{distance, bad}
 use Rattle.codes.specs.Radio.{Radio, word, Sound, known, radioOf}
 use Rattle.codes.specs.Symbol.{refused, symbolOf, symbolAt}
-use Rattle.codes.specs.Lent.{sizeAt, tableOf, tableAt}
+use Rattle.codes.specs.Lent.{sizeAt, tableOf, tableAt, badIn}
 use Rattle.codes.specs.Matching.{from, sumTo, nearestOf, judged, matchIn, matchedAt}
 use Rattle.codes.proofs.Tests.{by-test}
 use Rattle.codes.proofs.Modes.{each-row, sized, sizeless}
@@ -75,6 +75,11 @@ matched-symbol mode table chips at t b =
     (λ o. rw (k, o, t, table-known mode k)
     (judged-symbol (radioOf mode) (sound mode) (small mode .0) (small mode .1) chips at (ltb-false _ _ o) b)))
     (λ k. rw k)
+
+-- where a whole symbol is left, the test of its bytes is that of its window
+pub bad-window : (size : ℕ) (chips : List ℕ) (at : ℕ) → at + size ≤ length chips → badIn size chips at ≡ bad (take size (drop at chips))
+unfolding badIn
+bad-window size chips at f = rw (le-ltb (length chips) (at + size) f)
 
 -- the ways of `read_symbol`, at the size that the code found
 module _ (mode : ℕ) (chips : List ℕ) (at size : ℕ) (e : size ≡ sizeAt mode) where

@@ -8,18 +8,14 @@ use native.Mathlib.Omega.{arith}
 use lib.ListN.{length, replicate}
 use lib.Dec.{eqb, ltb}
 use borrow.Author.Tests.{eqb-true, eqb-false, ltb-true, ne-eqb, not-true}
-use Rattle.codes.specs.Chips.{pick, distance, bad}
-use Rattle.codes.specs.Radio.{Radio, word, Sound, radioOf, bpsk, oqpsk, bpskWords, oqpskWord, oqpskWords, turned, turns, oddInverted, turnedWords}
+use Rattle.codes.specs.Chips.{pick, among, distance, bad}
+use Rattle.codes.specs.Radio.{Radio, word, Sound, Unflat, radioOf, bpsk, oqpsk, bpskWords, oqpskWord, oqpskWords, turned, turns, oddInverted, turnedWords}
 use Rattle.codes.proofs.Tests.{by-test, not-both, every, each}
 use Rattle.codes.proofs.Modes.{each-row}
 
 abbrev pub ones : List ℕ → ℕ
 ones [] = 0
 ones (x ∷ xs) = x + ones xs
-
-abbrev pub among : ℕ → List ℕ → Bool
-among x [] = false
-among x (y ∷ ys) = pick (eqb x y) true (among x ys)
 
 -- a test of each word, and of each pair of different words
 everyWord : Radio → (ℕ → Bool) → Bool
@@ -55,9 +51,6 @@ bpsk-words = (refl, refl, refl)
 -- a flat symbol, all 0 or all 1, is farther than the limit from every word
 flatTest : Radio → Bool
 flatTest r = everyWord r (λ v. pick (ltb (r .limit) (distance (replicate (r .size) 0) (word r v))) (ltb (r .limit) (distance (replicate (r .size) 1) (word r v))) false)
-
-abbrev pub Unflat : Radio → Type 0
-Unflat r = (c v : ℕ) → c ≤ 1 → v < length (r .words) → r .limit < distance (replicate (r .size) c) (word r v)
 
 unflat-by : (r : Radio) → flatTest r ≡ true → Unflat r
 unfolding flatTest

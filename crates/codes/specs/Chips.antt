@@ -9,6 +9,11 @@ abbrev pub pick : {A : Type 0} → Bool → A → A → A
 pick true a b = a
 pick false a b = b
 
+-- whether x is one of some numbers
+abbrev pub among : ℕ → List ℕ → Bool
+among x [] = false
+among x (y ∷ ys) = pick (eqb x y) true (among x ys)
+
 -- 1 where two chips differ, else 0
 abbrev pub differ : ℕ → ℕ → ℕ
 differ x y = pick (eqb x y) 0 1

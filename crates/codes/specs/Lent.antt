@@ -25,7 +25,7 @@ tableOf r = joined (r .words) ++ replicate (512 - length (joined (r .words))) 0
 unfoldable pub tableAt : ℕ → List ℕ
 tableAt mode = pick (known mode) (tableOf (radioOf mode)) (replicate 512 0)
 
--- whether the whole symbol of so many chips that begins at a place has a byte above 1
+-- whether the whole symbol of so many chips that begins at a place has a byte above 1; false where fewer are left
 unfoldable pub badIn : ℕ → List ℕ → ℕ → Bool
 badIn size chips at = pick (ltb (length chips) (at + size)) false (bad (take size (drop at chips)))
 

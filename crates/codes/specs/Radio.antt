@@ -4,7 +4,7 @@ use mathlib.Core.Path.{_≡_}
 use Prim.Native.Nat.{ℕ, zero, suc, _-_, _*_, _/_, _^_, _≤_, _<_}
 use mathlib.Core.Bool.{Bool, true, false}
 use mathlib.Core.List.{List, [], _∷_, _++_, map}
-use lib.ListN.{length, getD, take, drop}
+use lib.ListN.{length, getD, take, drop, replicate}
 use lib.Dec.{ltb}
 use Rattle.codes.specs.Chips.{distance, bad}
 
@@ -87,3 +87,7 @@ pub record Sound (r : Radio) : Type 0 where
   pub apart : (u v : ℕ) → u < length (r .words) → v < length (r .words) → distance (word r u) (word r v) ≤ 2 * r .limit → u ≡ v
   pub single : r .chained ≡ true → r .bits ≡ 1
   pub divides : 8 / r .bits * r .bits ≡ 8
+
+-- no word is within the limit of a flat symbol, all 0 or all 1
+abbrev pub Unflat : Radio → Type 0
+Unflat r = (c v : ℕ) → c ≤ 1 → v < length (r .words) → r .limit < distance (replicate (r .size) c) (word r v)

@@ -3,7 +3,7 @@
 // (proofs/Unique.antt), so the nearest word, where it is within the limit, is that one (proofs/Equal.antt). Each radio only
 // instantiates it.
 ghost use mathlib.Core.Path.{_≡_};
-ghost use Prim.Native.Nat.{_+_, _*_, _≤_, _<_};
+ghost use Prim.Native.Nat.{_+_, _*_, _≤_};
 ghost use lib.ListN.{length, take, drop};
 ghost use lib.Dec.{ltb};
 ghost use Rattle.codes.specs.Chips.{bad};
@@ -83,7 +83,7 @@ pub fn read_symbol(mode: u32, chips: &[u8], at: usize) -> Symbol
     if run_out(chips, at, size) {
         return refusal(RUNOUT);
     }
-    if 1 < highest(chips, at, size) {
+    if bad_in(size, chips, at) {
         return refusal(NOCHIP);
     }
     let words = table(mode);
@@ -104,7 +104,8 @@ pub fn matched(mode: u32, words: &[u8; 512], chips: &[u8], at: usize) -> Symbol
     refusal(BADMODE)
 }
 
-// Whether the mode's whole symbol that begins at a place has a byte that is no chip; false for a mode that has no radio.
+// Whether the mode's whole symbol that begins at a place has a byte that is no chip; false where fewer chips are left than a
+// symbol has, and for a mode that has no radio.
 pub fn bad_symbol(mode: u32, chips: &[u8], at: usize) -> bool
     ensures { λ r. ⌜ r ≡ badAt mode (now (chips .entry)) at ⌝ }
 {

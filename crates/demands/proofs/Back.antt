@@ -7,7 +7,7 @@ use lib.ListN.{take}
 use Rattle.codes.specs.Radio.{Radio, Sound}
 use Rattle.codes.proofs.Tests.{by-test}
 use Rattle.frame.specs.Frame.{sent, encode}
-use Rattle.frame.proofs.Count.{Below}
+use Rattle.frame.proofs.Below.{Below}
 use Rattle.reader.specs.Received.{rawAfter, decode}
 
 module _ (r : Radio) where
@@ -23,7 +23,7 @@ module _ (r : Radio) where
     raw-sent last b h = by-test (r .chained) (λ a. let l : b < 2 = rw (S .single a) at h in rw a (omega arith)) (λ a. rw a)
 
     sent-raw : (last v : ℕ) → v < 2 ^ r .bits → sent r last (rawAfter r last v) ≡ v
-    sent-raw last v h = by-test (r .chained) (λ a. let l : v < 2 = rw (S .single a) at h in rw a (omega arith)) (λ a. rw a)
+    sent-raw = raw-sent
 
     -- the symbols sent for raw ones are taken back to them
     pub decode-encode : (last : ℕ) (bs : List ℕ) → Below (2 ^ r .bits) bs → decode r last (encode r last bs) ≡ bs

@@ -16,10 +16,12 @@ use Rattle.frame.specs.Frame.{symbols, frame}
 use Rattle.reader.specs.Order.{window, whole, repaired}
 use Rattle.demands.specs.Words.{Near, differences}
 use Rattle.reader.proofs.Windows.{whole-long, whole-at, seen, seen-long}
+use Rattle.reader.proofs.Raw.{size-pos}
 use Rattle.reader.proofs.Carried.{repaired-append}
 use Rattle.demands.proofs.Stands.{Stands, seen-at}
-use Rattle.demands.proofs.Fronts.{size-pos, window-long, front-chips, window-chips}
-use Rattle.demands.proofs.Frames.{symbol-known, frame-size, frame-window, sum-of-windows}
+use Rattle.demands.proofs.Fronts.{window-long, front-chips, window-chips}
+use Rattle.demands.proofs.Frames.{symbol-known, frame-window, sum-of-windows}
+use Rattle.frame.proofs.Count.{frame-size}
 
 module _ (r : Radio) (chips : List ℕ) where
   abbrev ws : List (List ℕ)

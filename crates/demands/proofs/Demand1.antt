@@ -9,14 +9,14 @@ use lib.ListN.{length}
 use lib.Dec.{eqb, ltb}
 use Rattle.codes.specs.Numbers.{DONE, BADMODE, TOOLONG, NOROOM, RUNOUT, NOCHIP, LOST, PREAMBLE, BADSTART, RESERVED}
 use Rattle.codes.specs.Radio.{known, radioOf}
-use Rattle.codes.proofs.Facts.{among}
+use Rattle.codes.specs.Chips.{among}
 use Rattle.frame.specs.declared.Written.{Written}
 use Rattle.frame.specs.Outcome.{Outcome, outcome}
 use Rattle.frame.specs.Frame.{frame}
 use Rattle.frame.specs.Write.{unwritten, wrote, written}
 use Rattle.reader.specs.Order.{Answer, refused, done, reading}
 use Rattle.reader.specs.Read.{told, left, answerAt, readOf}
-use Rattle.demands.proofs.Reader.{by-pick, refusals, Fair, answer-fair}
+use Rattle.demands.proofs.Fair.{by-pick, refusals, Fair, answer-fair}
 
 -- ---- the reader
 

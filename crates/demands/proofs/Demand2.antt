@@ -1,5 +1,5 @@
--- Demand 2. A report's frame, followed by anything, reads back with count 0, for every sound radio. And in a mode that has a radio: what
--- the writer wrote, the reader reads. Assumes nothing.
+-- Demand 2. With room, the frame of a report of at most 127 octets, followed by anything, reads back as that report with count 0, for
+-- every sound radio. And in a mode that has a radio: what the writer wrote, the reader reads. Assumes nothing.
 use mathlib.Core.Path.{_≡_, sym, ap, _∙_}
 use mathlib.Core.Bool.{true}
 use mathlib.Core.List.{List, _++_}
@@ -32,7 +32,7 @@ module _ (r : Radio) (S : Sound r) where
       }
 
   -- and so is one followed by anything
-  pub near-frame : (report more : List ℕ) → Near r (frame r report ++ more) report 0
+  near-frame : (report more : List ℕ) → Near r (frame r report ++ more) report 0
   near-frame report more =
       let f = frame r report in
       near-same r S f (f ++ more) report 0 (omega (arith, length-append f more)) (take-length f ∙ sym (take-append-seam f more)) (near-self report)

@@ -7,7 +7,7 @@ use native.Mathlib.Omega.{arith}
 use lib.Arith.{digits-lt}
 use lib.ListN.{length}
 use Rattle.frame.specs.Frame.{digits}
-use Rattle.frame.proofs.Count.{Below}
+use Rattle.frame.proofs.Below.{Below}
 use Rattle.reader.specs.Received.{valueOf}
 
 module _ (base : ℕ) (pos : 0 < base) where

@@ -11,11 +11,12 @@ use lib.Seq.{take-all}
 use Rattle.codes.specs.Chips.{distance, bad}
 use Rattle.codes.specs.Radio.{Radio, Sound, word}
 use Rattle.codes.proofs.Chips.{bad-append}
-use Rattle.frame.specs.Frame.{octets, raws, symbols, chipsOf, frame}
-use Rattle.frame.proofs.Count.{Below, raws-below, encode-below, chips-long}
+use Rattle.frame.specs.Frame.{symbols, chipsOf, frame}
+use Rattle.frame.proofs.Count.{symbols-below, frame-size}
+use Rattle.frame.proofs.Below.{Below}
 use Rattle.reader.specs.Order.{window}
 use Rattle.demands.specs.Words.{Near, differences}
-use Rattle.reader.proofs.Below.{below-at}
+use Rattle.frame.proofs.Below.{below-at}
 use Rattle.demands.proofs.Fronts.{window-same, front-distance, word-window}
 
 module _ (r : Radio) (S : Sound r) where
@@ -25,32 +26,23 @@ module _ (r : Radio) (S : Sound r) where
   chips-good (v ∷ vs) p = rw (bad-append, S .chips v (rw (S .many) (p .0))) (chips-good vs (p .1))
 
   module _ (report : List ℕ) where
-    pub symbols-below : Below (2 ^ r .bits) (symbols r report)
-    unfolding symbols
-    symbols-below = encode-below r S 0 (raws r (octets report)) (raws-below r (octets report))
-
     -- each symbol of a frame has a word
     pub symbol-known : (s : ℕ) → s < length (symbols r report) → getD (symbols r report) s 0 < length (r .words)
-    symbol-known s h = rw (S .many) (below-at (2 ^ r .bits) (symbols r report) symbols-below s h)
-
-    -- a frame has so many chips
-    pub frame-size : length (frame r report) ≡ length (symbols r report) * r .size
-    unfolding frame
-    frame-size = chips-long r S (symbols r report) symbols-below
+    symbol-known s h = rw (S .many) (below-at (2 ^ r .bits) (symbols r report) (symbols-below r S report) s h)
 
     -- the windows of a frame's symbols end in the frame
-    pub window-in : (s : ℕ) → s < length (symbols r report) → suc s * r .size ≤ length (frame r report)
-    window-in s h = rw frame-size (mul-le-mul-right (r .size) h)
+    window-in : (s : ℕ) → s < length (symbols r report) → suc s * r .size ≤ length (frame r report)
+    window-in s h = rw (frame-size r S report) (mul-le-mul-right (r .size) h)
 
     -- window s of a frame is the word of its symbol s
     pub frame-window : (s : ℕ) → s < length (symbols r report) → window r (frame r report) s ≡ word r (getD (symbols r report) s 0)
     unfolding frame
-    frame-window s h = word-window r S (symbols r report) symbols-below s h
+    frame-window s h = word-window r S (symbols r report) (symbols-below r S report) s h
 
     -- a frame is of chips 0 and 1
     pub frame-good : bad (frame r report) ≡ false
     unfolding frame
-    frame-good = chips-good (symbols r report) symbols-below
+    frame-good = chips-good (symbols r report) (symbols-below r S report)
 
 -- Chips near a report's frame are so by the chips of that frame alone: others that begin with the same are as near.
 pub near-same : (r : Radio) → Sound r → (chips others report : List ℕ) (count : ℕ) → length (frame r report) ≤ length others

@@ -1,4 +1,5 @@
--- The front of a buffer and its windows: what is said of the one by the others, and the windows of a row of words. For any radio. Assumes nothing.
+-- The front of a buffer and its windows: what is said of the one by the others, for any radio; and the windows of a row of words, for a
+-- sound one. Assumes nothing.
 use mathlib.Core.Path.{_≡_, refl, sym, ap, _∙_}
 use mathlib.Core.Bool.{true, false}
 use mathlib.Core.Logic.{⊎-elim}
@@ -6,29 +7,19 @@ use mathlib.Core.List.{List, [], _∷_, _++_}
 use Prim.Native.Nat.{ℕ, zero, suc, _+_, _*_, _^_, _≤_, _<_}
 use native.Mathlib.Nat.{zero-mul, suc-mul, eq-or-lt-of-le}
 use native.Mathlib.Omega.{arith}
-use lib.Dec.{leb}
-use lib.Pow.{pow-lt}
 use lib.ListN.{length, getD, take, drop, length-take, length-drop}
 use lib.Seq.{take-add, take-take, take-at, length-take-le}
-use borrow.Author.Tests.{leb-true, leb-false}
 use Rattle.codes.specs.Chips.{pick, distance, bad}
 use Rattle.codes.specs.Radio.{Radio, Sound, word}
 use Rattle.codes.proofs.Tests.{by-test, not-both, upto}
-use Rattle.codes.proofs.Chips.{distance-le, distance-append, bad-append}
+use Rattle.codes.proofs.Chips.{distance-append, bad-append}
 use Rattle.codes.proofs.Rows.{row-in, drop-past}
 use Rattle.frame.specs.Frame.{chipsOf}
-use Rattle.frame.proofs.Count.{Below, word-long}
+use Rattle.frame.proofs.Count.{word-long}
+use Rattle.frame.proofs.Below.{Below}
 use Rattle.reader.specs.Order.{window}
 use Rattle.demands.specs.Words.{differences}
-use Rattle.demands.proofs.Octet.{bits-pos, drop-take}
-
--- a symbol has a chip
-pub size-pos : (r : Radio) → Sound r → 0 < r .size
-size-pos r S =
-    let two : 1 < length (r .words) = rw (S .many) (pow-lt {i = 0} {j = r .bits} (bits-pos r S)) in
-    by-test (leb (distance (word r 0) (word r 1)) (2 * r .limit))
-    (λ t. absurd (omega (arith, S .apart 0 1 (omega arith) two (leb-true _ _ t))))
-    (λ t. omega (arith, leb-false (distance (word r 0) (word r 1)) (2 * r .limit) t, distance-le (word r 0) (word r 1), S .sized 0 (omega arith)))
+use Rattle.demands.proofs.Octet.{drop-take}
 
 module _ (r : Radio) (chips : List ℕ) where
   -- a window within the buffer is one symbol long

@@ -1,5 +1,5 @@
--- The demands, and the laws that they stand on, leaves first. Demand1, Demand2, Demand3 and the files after it are for a reader; each
--- opens with what it says in plain words.
+-- The demands, and the laws that they stand on, leaves first. For a reader are Demand3 with PutRight, NoFlat, OneAnswer and Reader, which
+-- follow from it, Demand2 and Demand1; each opens with what it says in plain words.
 pub mod Digits
 pub mod Back
 pub mod Octet
@@ -12,8 +12,9 @@ pub mod Stands
 pub mod Ended
 pub mod Answered
 pub mod Close
-pub mod Demand3
+pub mod Fair
 pub mod Repair
+pub mod Demand3
 pub mod PutRight
 pub mod NoFlat
 pub mod OneAnswer

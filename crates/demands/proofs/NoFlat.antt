@@ -1,4 +1,4 @@
--- No symbol of an accepted frame is flat, all 0 or all 1: for any radio whose words are all farther than the limit from both flat
+-- No symbol of an accepted frame is flat, all 0 or all 1: for any sound radio whose words are all farther than the limit from both flat
 -- words, and so in either mode. Assumes nothing.
 use mathlib.Core.Path.{_≡_}
 use mathlib.Core.Bool.{true}
@@ -7,8 +7,8 @@ use Prim.Native.Nat.{ℕ, _≤_, _<_}
 use native.Mathlib.Omega.{arith}
 use lib.ListN.{length, getD, replicate}
 use Rattle.codes.specs.Chips.{distance}
-use Rattle.codes.specs.Radio.{Radio, Sound, known, radioOf, word}
-use Rattle.codes.proofs.Facts.{Unflat, unflat, sound}
+use Rattle.codes.specs.Radio.{Radio, Sound, Unflat, known, radioOf, word}
+use Rattle.codes.proofs.Facts.{unflat, sound}
 use Rattle.frame.specs.Frame.{symbols}
 use Rattle.reader.specs.Order.{window}
 use Rattle.demands.specs.Words.{Answers}

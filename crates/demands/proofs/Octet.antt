@@ -1,19 +1,19 @@
 -- Octets and their raw symbols: each gives the other back, for any sound radio. Assumes nothing.
 use mathlib.Core.Path.{_≡_, refl, sym, ap, _∙_}
 use mathlib.Core.List.{List, [], _∷_, _++_}
-use Prim.Native.Nat.{ℕ, zero, suc, _+_, _-_, _*_, _/_, _^_, _≤_, _<_}
-use native.Mathlib.Nat.{zero-add, suc-add, zero-mul, suc-mul, mul-zero, pow-le-pow-right, eq-zero-or-pos, min-le-left}
+use Prim.Native.Nat.{ℕ, zero, suc, _+_, _-_, _*_, _^_, _≤_, _<_}
+use native.Mathlib.Nat.{zero-add, suc-add, zero-mul, suc-mul, pow-le-pow-right, min-le-left}
 use native.Mathlib.Omega.{arith}
-use mathlib.Core.Logic.{⊎-elim}
 use lib.Pow.{pow-pos}
 use lib.ListN.{length, take, drop, length-take, length-drop, take-append-drop}
 use lib.Seq.{take-nil, take-at, drop-at, drop-drop, length-take-le, take-take}
 use Rattle.codes.specs.Radio.{Radio, Sound}
 use Rattle.frame.specs.Frame.{perOctet, rawOf, raws}
-use Rattle.frame.proofs.Count.{Below, digits-long}
+use Rattle.frame.proofs.Count.{digits-long}
+use Rattle.frame.proofs.Below.{Below}
 use Rattle.reader.specs.Received.{valueOf, octetAt, octetsFrom}
 use Rattle.reader.proofs.Raw.{octet-values}
-use Rattle.reader.proofs.Below.{below-take, below-drop}
+use Rattle.frame.proofs.Below.{below-take, below-drop}
 use Rattle.demands.proofs.Digits.{value-digits, digits-value, value-below}
 
 -- the front of a part is a part of the front
@@ -42,14 +42,6 @@ module _ (r : Radio) where
       ap (valueOf (2 ^ r .bits)) t
 
 module _ (r : Radio) (S : Sound r) where
-  -- a symbol has a bit
-  pub bits-pos : 0 < r .bits
-  bits-pos =
-      ⊎-elim
-      (λ (e : r .bits ≡ 0). absurd (omega (arith, S .divides, ap (λ (x : ℕ). 8 / r .bits * x) e, mul-zero (8 / r .bits))))
-      (λ (h : 0 < r .bits). h)
-      (eq-zero-or-pos (r .bits))
-
   -- an octet's raw symbols make the octet
   octet-raw : (x : ℕ) → x < 256 → valueOf (2 ^ r .bits) (rawOf r x) ≡ x
   octet-raw x h = value-digits (2 ^ r .bits) (pow-pos (r .bits)) (perOctet r) x (rw (octet-values r S) h)

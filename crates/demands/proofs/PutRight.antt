@@ -16,7 +16,7 @@ use Rattle.demands.proofs.Repair.{one-less, closer, bad-set}
 use Rattle.demands.proofs.Frames.{frame-good}
 
 -- chips near a report's frame, with one wrong chip put right, are near it with a count one less
-pub nearer : (r : Radio) → Sound r → (chips report : List ℕ) (count : ℕ) → Near r chips report count → (i : ℕ) → i < length (frame r report)
+nearer : (r : Radio) → Sound r → (chips report : List ℕ) (count : ℕ) → Near r chips report count → (i : ℕ) → i < length (frame r report)
     → (getD chips i 0 ≡ getD (frame r report) i 0 → ⊥)
     → (c : ℕ) × (count ≡ suc c) × Near r (set chips i (getD (frame r report) i 0)) report c
 nearer r S chips report count n i h w =

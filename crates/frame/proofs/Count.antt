@@ -1,6 +1,6 @@
 -- How many symbols and chips: of octets, and of a frame. Assumes nothing.
 use mathlib.Core.Path.{_≡_, refl, sym, ap, _∙_}
-use mathlib.Core.List.{List, [], _∷_, _++_}
+use mathlib.Core.List.{List, [], _∷_}
 use Prim.Native.Nat.{ℕ, zero, suc, _+_, _*_, _/_, _^_, _<_}
 use native.Mathlib.Nat.{zero-mul, suc-mul, mul-assoc, mod-lt}
 use native.Mathlib.Omega.{arith}
@@ -10,16 +10,9 @@ use Rattle.codes.specs.Radio.{Radio, word, Sound, bpsk, oqpsk}
 use Rattle.codes.proofs.Tests.{by-test}
 use Rattle.codes.proofs.Facts.{sound-bpsk, sound-oqpsk}
 use Rattle.frame.specs.Putting.{octetChips}
+use Rattle.frame.proofs.Below.{Below, below-append}
 use Rattle.frame.proofs.Chain.{encode-long}
 use Rattle.frame.specs.Frame.{octets, perOctet, digits, rawOf, raws, sent, encode, symbols, chipsOf, frame}
-
-abbrev pub Below : ℕ → List ℕ → Type 0
-Below w [] = Unit {0}
-Below w (v ∷ vs) = (v < w) × Below w vs
-
-pub below-append : (w : ℕ) (xs ys : List ℕ) → Below w xs → Below w ys → Below w (xs ++ ys)
-below-append w [] ys p q = q
-below-append w (x ∷ xs) ys p q = (p .0, below-append w xs ys (p .1) q)
 
 pub digits-long : (k base x : ℕ) → length (digits k base x) ≡ k
 unfolding digits
@@ -72,11 +65,20 @@ module _ (r : Radio) (S : Sound r) where
       chips-long (encode r last (rawOf r x)) (encode-below last (rawOf r x) (digits-below (perOctet r) (2 ^ r .bits) x (pow-pos (r .bits))))
       ∙ ap (λ (n : ℕ). n * r .size) (encode-long r last (rawOf r x) ∙ digits-long (perOctet r) (2 ^ r .bits) x)
 
-  -- chips of a frame
+  -- each symbol of a frame has a word
+  pub symbols-below : (report : List ℕ) → Below (2 ^ r .bits) (symbols r report)
+  unfolding symbols
+  symbols-below report = encode-below 0 (raws r (octets report)) (raws-below r (octets report))
+
+  -- chips of a frame, by its symbols
+  pub frame-size : (report : List ℕ) → length (frame r report) ≡ length (symbols r report) * r .size
+  unfolding frame
+  frame-size report = chips-long (symbols r report) (symbols-below report)
+
+  -- and by its octets
   pub frame-long : (report : List ℕ) → length (frame r report) ≡ (6 + length report) * octetChips r
-  unfolding frame symbols
   frame-long report =
-      chips-long (symbols r report) (encode-below 0 (raws r (octets report)) (raws-below r (octets report)))
+      frame-size report
       ∙ ap (λ (n : ℕ). n * r .size) (symbols-long r report)
       ∙ mul-assoc (6 + length report) (perOctet r) (r .size)
 

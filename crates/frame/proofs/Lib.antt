@@ -1,4 +1,5 @@
 -- Laws of the frame and of writing it, leaves first, and the bench sheet.
+pub mod Below
 pub mod Modes
 pub mod Chain
 pub mod Octets

@@ -14,7 +14,8 @@ use Rattle.codes.proofs.Rows.{row-in, row-next}
 use Rattle.frame.specs.Frame.{perOctet, digits, rawOf, raws, sent, encode, chipsOf}
 use Rattle.frame.specs.Putting.{over, lastSent, octetChips}
 use Rattle.frame.proofs.Over.{over-nil, over-over}
-use Rattle.frame.proofs.Count.{Below, digits-below, sent-below, word-long, octet-long}
+use Rattle.frame.proofs.Count.{digits-below, sent-below, word-long, octet-long}
+use Rattle.frame.proofs.Below.{Below}
 
 module _ (r : Radio) where
   encode-append : (last : ℕ) (xs ys : List ℕ) → encode r last (xs ++ ys) ≡ encode r last xs ++ encode r (lastSent r last xs) ys

@@ -1,7 +1,7 @@
 -- The hand carries the numbers of the symbols before it, and a symbol more keeps it so. Assumes nothing.
 use mathlib.Core.Path.{_≡_, refl, sym, ap, _∙_}
 use mathlib.Core.Bool.{true}
-use mathlib.Core.List.{List, [], _∷_, _++_}
+use mathlib.Core.List.{List, [], _∷_, _++_, map-append}
 use Prim.Native.Nat.{ℕ, suc, _+_, _*_, _^_, _≤_, _<_}
 use native.Mathlib.Nat.{mod-eq-of-lt}
 use native.Mathlib.Omega.{arith}
@@ -14,14 +14,15 @@ use Rattle.codes.specs.Symbol.{reads}
 use Rattle.codes.specs.declared.Symbol.{Symbol}
 use Rattle.codes.proofs.Tests.{by-test}
 use Rattle.frame.specs.Frame.{perOctet}
-use Rattle.frame.proofs.Count.{Below, below-append}
+use Rattle.frame.proofs.Below.{Below, below-append}
 use Rattle.reader.specs.declared.Hand.{Hand}
 use Rattle.reader.specs.Received.{rawAfter, decode, received, octetAt}
 use Rattle.reader.specs.Order.{ends, rules, values, repaired, verdict}
-use Rattle.reader.specs.Taking.{begun, rawOf, shifted, lengthAfter, moved}
+use Rattle.reader.specs.Taking.{begun, rawFrom, shifted, lengthAfter, moved}
 use Rattle.reader.proofs.Raw.{lastOf, last-snoc, last-below, decode-long, decode-snoc, decode-below, octet-stays, shifts, shifts-append, per-positive, last-octet}
 use Rattle.reader.proofs.Rules.{rules-same}
 
+-- the hand's numbers are those of the symbols before
 pub record Carries (r : Radio) (before : List Symbol) (h : Hand) : Type 0 where
   pub taken : h .taken ≡ length before
   pub last : h .last ≡ lastOf 0 (values before)
@@ -31,9 +32,8 @@ pub record Carries (r : Radio) (before : List Symbol) (h : Hand) : Type 0 where
   pub count : h .count ≡ repaired before
   pub below : Below (2 ^ r .bits) (values before)
 
-pub values-snoc : (xs : List Symbol) (x : Symbol) → values (xs ++ x ∷ []) ≡ values xs ++ x .value ∷ []
-values-snoc [] x = refl
-values-snoc (y ∷ xs) x = ap (λ (l : List ℕ). y .value ∷ l) (values-snoc xs x)
+values-snoc : (xs : List Symbol) (x : Symbol) → values (xs ++ x ∷ []) ≡ values xs ++ x .value ∷ []
+values-snoc xs x = map-append (λ (y : Symbol). y .value) xs (x ∷ [])
 
 pub repaired-append : (xs ys : List Symbol) → repaired (xs ++ ys) ≡ repaired xs + repaired ys
 unfolding repaired
@@ -82,7 +82,7 @@ module _ (r : Radio) (S : Sound r) where
 
     -- the octet in hand and n with it, as the code has them
     abbrev octet : ℕ
-    octet = shifted r (h .octet) (rawOf r (h .last) v)
+    octet = shifted r (h .octet) (rawFrom r (h .last) v)
 
     abbrev n : ℕ
     n = lengthAfter (perOctet r) (h .taken) (h .length) octet
@@ -99,7 +99,7 @@ module _ (r : Radio) (S : Sound r) where
     after-below : Below (2 ^ r .bits) (values after)
     after-below = rw (values-snoc before (reads v d)) (below-append (2 ^ r .bits) (values before) (v ∷ []) (C .below) (lv, tt))
 
-    raw-is : rawOf r (h .last) v ≡ raw
+    raw-is : rawFrom r (h .last) v ≡ raw
     raw-is = rw (C .last, mod-eq-of-lt (last-below (2 ^ r .bits) 0 (values before) (pow-pos (r .bits)) (C .below)), mod-eq-of-lt lv)
 
     octet-is : octet ≡ shifts r 0 bits
@@ -123,14 +123,14 @@ module _ (r : Radio) (S : Sound r) where
     n-early l = rw (C .taken, ne-eqb (suc (length before)) (6 * perOctet r) (λ e. omega arith)) (C .early (omega arith))
 
     -- the code's rules are the reading order's
-    pub verdict-is : (room : ℕ) → rules (perOctet r) room (h .taken) (rawOf r (h .last) v) octet n ≡ verdict r room (length before) bits
+    pub verdict-is : (room : ℕ) → rules (perOctet r) room (h .taken) (rawFrom r (h .last) v) octet n ≡ verdict r room (length before) bits
     verdict-is room =
-        let g : getD bits (length before) 0 ≡ rawOf r (h .last) v =
+        let g : getD bits (length before) 0 ≡ rawFrom r (h .last) v =
         ap (λ (l : List ℕ). getD l (length before) 0) bits-snoc
         ∙ getD-at (received r (values before)) raw [] 0 (length before) (received-long r before)
         ∙ sym raw-is in
         rw (g, C .taken)
-        (rules-same (perOctet r) room (length before) (rawOf r (h .last) v) octet (octetAt r 4 bits) (lengthAfter (perOctet r) (length before) (h .length) octet) (octetAt r 5 bits) (octet-ends 4) (λ l. rw (C .taken) at (n-late l)))
+        (rules-same (perOctet r) room (length before) (rawFrom r (h .last) v) octet (octetAt r 4 bits) (lengthAfter (perOctet r) (length before) (h .length) octet) (octetAt r 5 bits) (octet-ends 4) (λ l. rw (C .taken) at (n-late l)))
 
     -- and one symbol more is carried
     pub carries-more : suc (length before) < 2 ^ 32 → repaired before + d < 2 ^ 32 → (x : ℕ) → Carries r after (moved h x n d v octet)

@@ -3,7 +3,7 @@ use mathlib.Core.Path.{_≡_, sym, ap, _∙_}
 use mathlib.Core.Bool.{true}
 use mathlib.Core.List.{List, [], _∷_, _++_}
 use Prim.Native.Nat.{ℕ, suc, _+_, _-_, _*_, _/_, _%_, _≤_, _<_}
-use native.Mathlib.Nat.{le-div-iff-mul-le, mul-le-mul-right, mul-mod-left, mul-div-cancel, div-add-mod', mod-eq-of-lt}
+use native.Mathlib.Nat.{le-div-iff-mul-le, mul-le-mul-right, le-add-right, mul-mod-left, mul-div-cancel, div-add-mod', mod-eq-of-lt}
 use native.Mathlib.Omega.{arith}
 use lib.ListN.{length, getD, take, length-append, length-set}
 use lib.Seq.{ext-getD, getD-take, getD-set-same, getD-set-other, length-take-le}
@@ -43,11 +43,8 @@ module _ (per : ℕ) (p : 0 < per) (h : Hand) (octets : List ℕ) (k : ℕ) wher
       let z : h .taken % per ≡ 0 = rw (← e) (mul-mod-left (7 + k) per) in
       let q : h .taken / per ≡ 7 + k = rw (← e) (mul-div-cancel (7 + k) p) in
       let j : h .taken / per - 7 ≡ k = omega arith in
-      rw (le-leb (7 * per) (h .taken) (omega (arith, mul-le-mul-right per (seven k))), eq-eqb (h .taken % per) 0 z, j, lt-ltb k 127 l)
+      rw (le-leb (7 * per) (h .taken) (omega (arith, mul-le-mul-right per (le-add-right 7 k))), eq-eqb (h .taken % per) 0 z, j, lt-ltb k 127 l)
       (getD-set-same octets k (h .octet % 256) 0 (omega arith))
-    where
-      seven : (k : ℕ) → 7 ≤ 7 + k
-      seven k = omega arith
 
 pub kept-long : (per : ℕ) (h : Hand) (octets : List ℕ) → length (keptIn per h octets) ≡ length octets
 kept-long per h octets =
@@ -65,10 +62,7 @@ Gathered r before octets = (k : ℕ) → k < 127 → (7 + k) * perOctet r ≤ le
 
 module _ (r : Radio) (S : Sound r) where
   pub gathered-none : (octets : List ℕ) → Gathered r [] octets
-  gathered-none octets k l e = absurd (omega (arith, per-positive r S, mul-le-mul-right (perOctet r) (seven k)))
-    where
-      seven : (k : ℕ) → 7 ≤ 7 + k
-      seven k = omega arith
+  gathered-none octets k l e = absurd (omega (arith, per-positive r S, mul-le-mul-right (perOctet r) (le-add-right 7 k)))
 
   pub gathered-more : (before : List Symbol) (x : Symbol) (octets : List ℕ) (g : Hand) → Gathered r before octets → Carries r (before ++ x ∷ []) g
       → length octets ≡ 127 → Gathered r (before ++ x ∷ []) (keptIn (perOctet r) g octets)

@@ -1,5 +1,4 @@
 -- Laws of reading, leaves first.
-pub mod Below
 pub mod Rules
 pub mod Steps
 pub mod Raw

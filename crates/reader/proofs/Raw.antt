@@ -2,18 +2,22 @@
 use mathlib.Core.Path.{_≡_, refl, sym, ap, _∙_}
 use mathlib.Core.List.{List, [], _∷_, _++_}
 use Prim.Native.Nat.{ℕ, zero, suc, _+_, _*_, _/_, _%_, _^_, _-_, _≤_, _<_}
-use native.Mathlib.Nat.{one-le-pow, pow-zero, pow-suc, pow-succ', zero-mul, suc-mul, mul-comm, mul-assoc, mul-add, div-div-eq-div-mul, add-mul-div-right, mul-div-cancel-left, div-eq-of-lt, div-one, mod-eq-of-lt, one-mul, mul-zero, mul-le-mul-right, div-lt-iff-lt-mul}
+use native.Mathlib.Nat.{one-le-pow, pow-zero, pow-suc, pow-succ', zero-mul, suc-mul, mul-comm, mul-assoc, mul-add, div-div-eq-div-mul, add-mul-div-right, mul-div-cancel-left, div-eq-of-lt, div-one, mod-eq-of-lt, one-mul, mul-zero, mul-le-mul-right, div-lt-iff-lt-mul, eq-zero-or-pos}
 use native.Mathlib.Omega.{arith}
 use lib.ListN.{length, getD, take, drop, length-drop, take-append-drop}
 use lib.Seq.{take-all, take-append-le, drop-append-le}
-use lib.Pow.{pow-add, pow-pos}
-use lib.Dec.{eqb}
-use borrow.Author.Tests.{eqb-true, eqb-false}
-use Rattle.codes.specs.Radio.{Radio, Sound}
+use lib.Pow.{pow-add, pow-pos, pow-lt}
+use mathlib.Core.Logic.{⊎-elim}
+use lib.Dec.{eqb, leb}
+use borrow.Author.Tests.{eqb-true, eqb-false, leb-true, leb-false}
+use Rattle.codes.specs.Chips.{distance}
+use Rattle.codes.specs.Radio.{Radio, Sound, word}
+use Rattle.codes.proofs.Chips.{distance-le}
 use Rattle.codes.proofs.Tests.{by-test}
 use Rattle.frame.specs.Frame.{perOctet}
-use Rattle.frame.proofs.Count.{Below}
-use Rattle.reader.proofs.Below.{below-take, below-drop}
+use Rattle.frame.proofs.Count.{sent-below}
+use Rattle.frame.proofs.Below.{Below}
+use Rattle.frame.proofs.Below.{below-take, below-drop}
 use Rattle.reader.specs.Received.{rawAfter, decode, valueOf, octetAt, octetsFrom}
 use Rattle.reader.specs.Taking.{shifted}
 
@@ -81,8 +85,8 @@ module _ (r : Radio) (S : Sound r) where
   pub octet-values : (2 ^ r .bits) ^ perOctet r ≡ 256
   octet-values = pow-pow (r .bits) (perOctet r) ∙ ap (λ (x : ℕ). 2 ^ x) (S .divides)
 
-  pub raw-below : (e v : ℕ) → v < 2 ^ r .bits → rawAfter r e v < 2 ^ r .bits
-  raw-below e v h = by-test (r .chained) (λ c. rw (c, S .single c) (omega arith)) (λ c. rw c h)
+  raw-below : (e v : ℕ) → v < 2 ^ r .bits → rawAfter r e v < 2 ^ r .bits
+  raw-below = sent-below r S
 
   pub decode-below : (e : ℕ) (vs : List ℕ) → Below (2 ^ r .bits) vs → Below (2 ^ r .bits) (decode r e vs)
   unfolding decode
@@ -104,7 +108,7 @@ module _ (r : Radio) (S : Sound r) where
       (t, ap (λ (x : ℕ). x / 2 ^ r .bits) t ∙ mul-div-cancel-left ((2 ^ r .bits) ^ m) (pow-pos (r .bits)))
 
   -- a raw symbol leaves the octet in hand an octet
-  pub shifted-below : (o b : ℕ) → b < 2 ^ r .bits → shifted r o b < 256
+  shifted-below : (o b : ℕ) → b < 2 ^ r .bits → shifted r o b < 256
   shifted-below o b h =
       let m : suc (perOctet r - 1) ≡ perOctet r = omega (arith, per-positive) in
       let w = (2 ^ r .bits) ^ (perOctet r - 1) in
@@ -132,7 +136,7 @@ module _ (r : Radio) (S : Sound r) where
       ∙ rw (d, t, mul-add (B ^ j) c (B * valueOf B cs)) (omega (arith, mul-comm c (B ^ j)))
 
   -- after the symbols of a whole octet it is that octet
-  pub shifts-octet : (cs : List ℕ) (o : ℕ) → o < 256 → length cs ≡ perOctet r → Below (2 ^ r .bits) cs → shifts r o cs ≡ valueOf (2 ^ r .bits) cs
+  shifts-octet : (cs : List ℕ) (o : ℕ) → o < 256 → length cs ≡ perOctet r → Below (2 ^ r .bits) cs → shifts r o cs ≡ valueOf (2 ^ r .bits) cs
   shifts-octet cs o h e b =
       let p : (2 ^ r .bits) ^ length cs ≡ 256 = ap (λ (x : ℕ). (2 ^ r .bits) ^ x) e ∙ octet-values in
       shifts-value cs o 0 h (omega arith) b
@@ -154,3 +158,19 @@ module _ (r : Radio) (S : Sound r) where
       let t : take (perOctet r) (drop q bs) ≡ drop q bs = take-all (perOctet r) (drop q bs) (omega arith) in
       let v : shifts r 0 bs ≡ octetAt r k bs = ap (shifts r 0) (sym two) ∙ shifts-append r 0 (take q bs) (drop q bs) ∙ shifts-octet (drop q bs) o h l c ∙ ap (valueOf (2 ^ r .bits)) (sym t) in
       (v, rw (← v) (shifts-below bs 0 (omega arith) b))
+
+  -- a symbol has a bit
+  bits-pos : 0 < r .bits
+  bits-pos =
+      ⊎-elim
+      (λ (e : r .bits ≡ 0). absurd (omega (arith, S .divides, ap (λ (x : ℕ). 8 / r .bits * x) e, mul-zero (8 / r .bits))))
+      (λ (h : 0 < r .bits). h)
+      (eq-zero-or-pos (r .bits))
+
+  -- a symbol has a chip
+  pub size-pos : 0 < r .size
+  size-pos =
+      let two : 1 < length (r .words) = rw (S .many) (pow-lt {i = 0} {j = r .bits} bits-pos) in
+      by-test (leb (distance (word r 0) (word r 1)) (2 * r .limit))
+      (λ t. absurd (omega (arith, S .apart 0 1 (omega arith) two (leb-true _ _ t))))
+      (λ t. omega (arith, leb-false (distance (word r 0) (word r 1)) (2 * r .limit) t, distance-le (word r 0) (word r 1), S .sized 0 (omega arith)))

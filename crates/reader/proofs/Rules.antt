@@ -1,9 +1,9 @@
--- Rules 4 to 6: what each needs to be what is found, and what they look at. Assumes nothing.
+-- Rules 4 to 6: which number they give, what they look at, and that nothing is wrong where they give none. Assumes nothing.
 use mathlib.Core.Path.{_≡_, refl, sym, _∙_}
 use mathlib.Core.Bool.{Bool, true, false, not}
 use mathlib.Core.Logic.{_⊎_, inl, inr}
 use Prim.Native.Nat.{ℕ, suc, _+_, _*_, _≤_, _<_}
-use native.Mathlib.Nat.{mul-le-mul-right}
+use native.Mathlib.Nat.{mul-le-mul-right, le-add-right}
 use native.Mathlib.Omega.{arith}
 use lib.Dec.{eqb, leb, ltb}
 use borrow.Author.Tests.{lt-ltb, le-ltb, eq-eqb, ne-eqb, eqb-true, leb-true, leb-false, ltb-true, ltb-false, not-false}
@@ -13,7 +13,7 @@ use Rattle.codes.proofs.Tests.{by-test, not-both}
 use Rattle.frame.specs.Frame.{startOctet}
 use Rattle.reader.specs.declared.Hand.{Hand}
 use Rattle.reader.specs.Order.{both, ends, rules}
-use Rattle.reader.specs.Taking.{stopped, moved, unless, roomed}
+use Rattle.reader.specs.Taking.{stopped, moved, onward, roomed}
 
 -- one test and another
 pub neither : (a b : Bool) → (a ≡ true → b ≡ false) → both a b ≡ false
@@ -63,10 +63,7 @@ module _ (per room s raw : ℕ) where
   start-same o p n e = by-test (ends per 4 s) (λ a. rw (e a)) (λ a. rw a)
 
   early : suc s < 6 * per → (n : ℕ) → ends per (5 + n) s ≡ false
-  early h n = ne-eqb (suc s) (suc (5 + n) * per) (λ e. omega (arith, mul-le-mul-right per (six n)))
-    where
-      six : (n : ℕ) → 6 ≤ suc (5 + n)
-      six n = omega arith
+  early h n = ne-eqb (suc s) (suc (5 + n) * per) (λ e. omega (arith, mul-le-mul-right per (le-add-right 6 n)))
 
   length-same : (o m n : ℕ) → (6 * per ≤ suc s → m ≡ n) → rules per room s raw o m ≡ rules per room s raw o n
   unfolding rules
@@ -87,7 +84,7 @@ both-true false b e = not-both false e refl
 -- The reader's test of room, after the rules with room for every report, is the rules with its room.
 module _ (per room s raw o n d v : ℕ) (h : Hand) (l : h .length ≤ room) (m : ends per 5 s ≡ false → n ≤ room) where
   abbrev next : ℕ → Hand
-  next x = unless x h (moved h x n d v o)
+  next x = onward x (moved h x n d v o) (stopped x h)
 
   -- a refusal keeps n
   kept : (x : ℕ) → roomed room h (stopped x h) ≡ stopped x h

@@ -7,25 +7,22 @@ use native.Mathlib.Omega.{arith}
 use lib.ListN.{length, getD, take, drop, length-drop}
 use lib.Seq.{getD-take, getD-drop}
 use borrow.Author.Tests.{le-ltb}
-use Rattle.codes.specs.Numbers.{NOCHIP, MORE}
+use Rattle.codes.specs.Numbers.{NOCHIP}
 use Rattle.codes.specs.Chips.{bad}
 use Rattle.codes.specs.Radio.{known, radioOf}
 use Rattle.codes.specs.Symbol.{symbolOf, symbolAt}
-use Rattle.codes.specs.Lent.{sizeAt, tableAt, badIn, badAt}
+use Rattle.codes.specs.Lent.{sizeAt, tableAt, badAt}
 use Rattle.codes.specs.Matching.{matchedAt}
 use Rattle.codes.specs.declared.Symbol.{Symbol}
 use Rattle.codes.proofs.Tests.{by-test}
 use Rattle.codes.proofs.Modes.{each-row, size-known}
 use Rattle.codes.proofs.Chips.{chip-at, no-higher}
 use Rattle.codes.proofs.Facts.{sound}
-use Rattle.codes.proofs.Equal.{matched-symbol}
-use Rattle.frame.proofs.Modes.{few-symbols}
+use Rattle.codes.proofs.Equal.{matched-symbol, bad-window}
 use Rattle.reader.specs.declared.Hand.{Hand}
 use Rattle.reader.specs.Taking.{begun, stopped, followed, roomed, keptAt, Scanned}
+use Rattle.reader.proofs.Raw.{size-pos}
 use Rattle.reader.proofs.Scanning.{Scanning, Ways, scan-starts, scan-out, scan-bad, turned-scan}
-
-positive : (mode : ℕ) → 0 < radioOf mode .size
-positive = each-row (λ r. 0 < r .size) (omega arith) (omega arith)
 
 low : (mode : ℕ) → radioOf mode .limit ≤ 255
 low = each-row (λ r. r .limit ≤ 255) (omega arith) (omega arith)
@@ -43,7 +40,7 @@ good-byte chips at k h b f =
     sym (no-higher (drop at chips) k 1 (getD chips (at + k) 0) l (sym (getD-drop at chips k 0)) (sym f) b)
 
 pub size-positive : (mode size : ℕ) → known mode ≡ true → size ≡ sizeAt mode → 0 < size
-size-positive mode size m e = rw (e ∙ size-known mode m) (positive mode)
+size-positive mode size m e = rw (e ∙ size-known mode m) (size-pos (radioOf mode) (sound mode))
 
 module _ (mode : ℕ) (m : known mode ≡ true) (room : ℕ) (chips : List ℕ) where
   pub starts : (octets : List ℕ) (h : Hand) → h ≡ begun → length octets ≡ 127 → Scanning (radioOf mode) room chips octets h 0
@@ -54,19 +51,19 @@ module _ (mode : ℕ) (m : known mode ≡ true) (room : ℕ) (chips : List ℕ) 
     is = e ∙ size-known mode m
 
     pub runs-out : length chips - at < size → Scanned (radioOf mode) room chips octets h
-    runs-out l = scan-out (radioOf mode) (sound mode) (positive mode) room chips octets h at L (rw is at l)
+    runs-out l = scan-out (radioOf mode) (sound mode) room chips octets h at L (rw is at l)
 
     module _ (l : size ≤ length chips - at) where
       whole : at + radioOf mode .size ≤ length chips
       whole = let w : at + size ≤ length chips = omega (arith, L .upto) in rw is at w
 
       pub stops-bad : bad (take size (drop at chips)) ≡ true → (g : Hand) → g ≡ stopped NOCHIP h → Scanned (radioOf mode) room chips octets g
-      stops-bad b g q = rw q (scan-bad (radioOf mode) (sound mode) (positive mode) room chips octets h at L (rw is at l) (rw is at b))
+      stops-bad b g q = rw q (scan-bad (radioOf mode) (sound mode) room chips octets h at L (rw is at l) (rw is at b))
 
       -- what the test of the bytes says
       pub all-chips : badAt mode chips at ≡ false → bad (take size (drop at chips)) ≡ false
-      unfolding badAt badIn
-      all-chips b = rw is (rw (m, le-ltb (length chips) (at + radioOf mode .size) whole) at b)
+      unfolding badAt
+      all-chips b = rw is (sym (bad-window (radioOf mode .size) chips at whole) ∙ rw m at b)
 
       module _ (b : bad (take size (drop at chips)) ≡ false) (words : List ℕ) (t : words ≡ tableAt mode) (x : Symbol) (ex : x ≡ matchedAt mode words chips at) (f : Hand) (ef : f ≡ followed mode h x) (g : Hand)
           (eg : g ≡ roomed room h f) (kept : List ℕ) (ek : kept ≡ keptAt mode g octets) where
@@ -77,5 +74,5 @@ module _ (mode : ℕ) (m : known mode ≡ true) (room : ℕ) (chips : List ℕ) 
         pub turns : Ways (radioOf mode) room chips kept g (at + size)
         unfolding followed keptAt
         turns =
-            let way = turned-scan (radioOf mode) (sound mode) (positive mode) room chips octets h at L (rw is at l) (few-symbols mode) (low mode) x symbol-is g (eg ∙ ap (roomed room h) (ef ∙ rw m)) kept (ek ∙ rw m) in
+            let way = turned-scan (radioOf mode) (sound mode) room chips octets h at L (rw is at l) (low mode) x symbol-is g (eg ∙ ap (roomed room h) (ef ∙ rw m)) kept (ek ∙ rw m) in
             (λ n. rw is (way .0 n), way .1)

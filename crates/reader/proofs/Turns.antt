@@ -4,7 +4,7 @@ use mathlib.Core.Path.{_≡_, refl, sym, ap, _∙_, subst}
 use mathlib.Core.List.{List, [], _∷_, _++_}
 use mathlib.Core.Logic.{_⊎_, inl, inr}
 use Prim.Native.Nat.{ℕ, suc, _+_, _*_, _%_, _^_, _≤_, _<_}
-use native.Mathlib.Nat.{mod-eq-of-lt, mul-le-mul-right, mul-suc}
+use native.Mathlib.Nat.{mod-eq-of-lt, mul-le-mul-right, mul-suc, le-add-right, div-le-self}
 use native.Mathlib.Omega.{arith}
 use lib.ListN.{length}
 use lib.Dec.{eqb, ltb}
@@ -21,7 +21,7 @@ use Rattle.reader.specs.declared.Hand.{Hand}
 use Rattle.reader.specs.Received.{received}
 use Rattle.reader.specs.Order.{Answer, done, ends, rules, values, repaired, verdict, reportIn, concluded, taking}
 use Rattle.reader.specs.Order as order
-use Rattle.reader.specs.Taking.{begun, stopped, rawOf, shifted, lengthAfter, moved, unless, advanced, roomed}
+use Rattle.reader.specs.Taking.{begun, stopped, rawFrom, shifted, lengthAfter, moved, onward, advanced, roomed}
 use Rattle.reader.proofs.Raw.{per-positive}
 use Rattle.reader.proofs.Rules.{Clear, rules-clear, rules-last, rules-before, rules-room}
 use Rattle.reader.proofs.Steps.{goes, stops}
@@ -72,24 +72,24 @@ module _ (r : Radio) (room : ℕ) (before : List Symbol) (x : Symbol) (g : Hand)
   abbrev pub Turned : Type 0
   Turned = On ⊎ (Over ⊎ Off)
 
--- the numbers of a symbol
+-- no symbol is answered 13
 symbol-number : (r : Radio) (w : List ℕ) → symbolOf r w .number ≡ MORE → ⊥
 unfolding symbolOf valued
 symbol-number r w e =
     by-test (bad w) (λ a. omega (arith, rw a at e))
     (λ a. by-test (ltb (first (within r w) 0 (length (r .words))) (length (r .words))) (λ b. omega (arith, rw (a, b) at e)) (λ b. omega (arith, rw (a, b) at e)))
 
-module _ (r : Radio) (S : Sound r) (few : perOctet r ≤ 8) (low : r .limit ≤ 255) (room : ℕ) (before : List Symbol) (h : Hand) (C : Carries r before h) (O : Open r room h) where
+module _ (r : Radio) (S : Sound r) (low : r .limit ≤ 255) (room : ℕ) (before : List Symbol) (h : Hand) (C : Carries r before h) (O : Open r room h) where
   -- symbols before the end of the longest frame
   early : h .taken < 1064
-  early = omega (arith, O .under, mul-le-mul-right (perOctet r) (more (h .length) (O .few)))
+  early = omega (arith, div-le-self 8 (r .bits), O .under, mul-le-mul-right (perOctet r) (more (h .length) (O .few)))
     where
       more : (n : ℕ) → n ≤ 127 → 6 + n ≤ 133
       more n l = omega arith
 
   module _ (v d : ℕ) (lv : v < 2 ^ r .bits) (ld : d ≤ r .limit) where
     abbrev octet : ℕ
-    octet = shifted r (h .octet) (rawOf r (h .last) v)
+    octet = shifted r (h .octet) (rawFrom r (h .last) v)
 
     abbrev n : ℕ
     n = lengthAfter (perOctet r) (h .taken) (h .length) octet
@@ -98,17 +98,17 @@ module _ (r : Radio) (S : Sound r) (few : perOctet r ≤ 8) (low : r .limit ≤ 
     found = verdict r room (length before) (received r (values (before ++ reads v d ∷ [])))
 
     abbrev code : ℕ → ℕ
-    code m = rules (perOctet r) m (h .taken) (rawOf r (h .last) v) octet n
+    code m = rules (perOctet r) m (h .taken) (rawFrom r (h .last) v) octet n
 
     -- the hand that the code makes is moved or stopped by the reading order's number
-    found-hand : roomed room h (advanced r h v d) ≡ unless found h (moved h found n d v octet)
+    found-hand : roomed room h (advanced r h v d) ≡ onward found (moved h found n d v octet) (stopped found h)
     unfolding advanced
     found-hand =
-        rules-room (perOctet r) room (h .taken) (rawOf r (h .last) v) octet n d v h (O .fits) (λ e. rw e (O .fits))
-        ∙ ap (λ (y : ℕ). unless y h (moved h y n d v octet)) (verdict-is r S before h C v d lv room)
+        rules-room (perOctet r) room (h .taken) (rawFrom r (h .last) v) octet n d v h (O .fits) (λ e. rw e (O .fits))
+        ∙ ap (λ (y : ℕ). onward y (moved h y n d v octet) (stopped y h)) (verdict-is r S before h C v d lv room)
 
     -- n has room, on the last symbol of the length octet by the rules, else as before
-    n-fits : Clear (perOctet r) room (h .taken) (rawOf r (h .last) v) octet n → (n ≤ room) × (n ≤ 127)
+    n-fits : Clear (perOctet r) room (h .taken) (rawFrom r (h .last) v) octet n → (n ≤ room) × (n ≤ 127)
     n-fits p =
         by-test (ends (perOctet r) 5 (h .taken))
         (λ e. (p .fits (eqb-true _ _ e), p .reserved (eqb-true _ _ e)))
@@ -118,11 +118,8 @@ module _ (r : Radio) (S : Sound r) (few : perOctet r ≤ 8) (low : r .limit ≤ 
     reached : suc (h .taken) ≤ (6 + n) * perOctet r
     reached =
         by-test (ends (perOctet r) 5 (h .taken))
-        (λ e. omega (arith, eqb-true (suc (h .taken)) (6 * perOctet r) e, mul-le-mul-right (perOctet r) (six n)))
+        (λ e. omega (arith, eqb-true (suc (h .taken)) (6 * perOctet r) e, mul-le-mul-right (perOctet r) (le-add-right 6 n)))
         (λ e. rw e (O .under))
-      where
-        six : (m : ℕ) → 6 ≤ 6 + m
-        six m = omega arith
 
     taken-more : (h .taken + 1) % 2 ^ 32 ≡ suc (h .taken)
     taken-more = mod-eq-of-lt {n = h .taken + 1} {m = 2 ^ 32} (omega (arith, early)) ∙ omega arith
@@ -142,13 +139,13 @@ module _ (r : Radio) (S : Sound r) (few : perOctet r ≤ 8) (low : r .limit ≤ 
     on : found ≡ MORE → On r room before (reads v d) (moved h found n d v octet)
     unfolding taking concluded
     on f =
-        let p = n-fits (rules-clear (perOctet r) room (h .taken) (rawOf r (h .last) v) octet n MORE (inl refl) (code-is ∙ f)) in
+        let p = n-fits (rules-clear (perOctet r) room (h .taken) (rawFrom r (h .last) v) octet n MORE (inl refl) (code-is ∙ f)) in
         record {
           carries = carried found;
           goes =
               record {
                 number = f;
-                under = rw taken-more (omega (arith, reached, rules-before (perOctet r) room (h .taken) (rawOf r (h .last) v) octet n (code-is ∙ f)));
+                under = rw taken-more (omega (arith, reached, rules-before (perOctet r) room (h .taken) (rawFrom r (h .last) v) octet n (code-is ∙ f)));
                 fits = p .0;
                 few = p .1;
                 low = rw (taken-more, count-more) (omega (arith, O .low, ld, mul-suc (r .limit) (h .taken)));
@@ -159,11 +156,11 @@ module _ (r : Radio) (S : Sound r) (few : perOctet r ≤ 8) (low : r .limit ≤ 
     over : found ≡ DONE → Over r room before (reads v d) (moved h found n d v octet)
     unfolding taking concluded
     over f =
-        let p = n-fits (rules-clear (perOctet r) room (h .taken) (rawOf r (h .last) v) octet n DONE (inr refl) (code-is ∙ f)) in
+        let p = n-fits (rules-clear (perOctet r) room (h .taken) (rawFrom r (h .last) v) octet n DONE (inr refl) (code-is ∙ f)) in
         record {
           number = f;
           carries = carried found;
-          total = rw taken-more (rules-last (perOctet r) room (h .taken) (rawOf r (h .last) v) octet n (code-is ∙ f));
+          total = rw taken-more (rules-last (perOctet r) room (h .taken) (rawFrom r (h .last) v) octet n (code-is ∙ f));
           fits = p .0;
           few = p .1;
           same = λ next. rw f;
@@ -177,13 +174,13 @@ module _ (r : Radio) (S : Sound r) (few : perOctet r ≤ 8) (low : r .limit ≤ 
     value-turned g e =
         by-test (eqb found MORE)
         (λ a. let f = eqb-true found MORE a in
-        inl (rw (e, found-hand, goes found h (moved h found n d v octet) (inl f)) (on f)))
+        inl (rw (e, found-hand, goes found (moved h found n d v octet) (stopped found h) (inl f)) (on f)))
         (λ a. by-test (eqb found DONE)
         (λ b. let f = eqb-true found DONE b in
-        inr (inl (rw (e, found-hand, goes found h (moved h found n d v octet) (inr f)) (over f))))
+        inr (inl (rw (e, found-hand, goes found (moved h found n d v octet) (stopped found h) (inr f)) (over f))))
         (λ b. let p = eqb-false found MORE a in
         let q = eqb-false found DONE b in
-        inr (inr (rw (e, found-hand, stops found h (moved h found n d v octet) p q) (off p q)))))
+        inr (inr (rw (e, found-hand, stops found (moved h found n d v octet) (stopped found h) p q) (off p q)))))
 
   -- a symbol that is refused ends the reading
   refused-turned : (x : Symbol) → (x .number ≡ MORE → ⊥) → (x .number ≡ DONE → ⊥) → (g : Hand) → g ≡ roomed room h (stopped (x .number) h) → Turned r room before x g

@@ -2,7 +2,7 @@
 -- before is shown in proofs/Carried.antt, that following them is the reading order in proofs/Turns.antt and
 -- proofs/Scanning.antt. It is total: whatever the numbers are, they are reduced or wrap, and no sum overflows.
 use mathlib.Core.Path.{_≡_}
-use Prim.Native.Nat.{ℕ, suc, _+_, _-_, _*_, _/_, _%_, _^_, _≤_}
+use Prim.Native.Nat.{ℕ, _+_, _-_, _*_, _/_, _%_, _^_, _≤_}
 use mathlib.Core.List.{List, []}
 use lib.ListN.{length, take, set}
 use lib.Dec.{eqb, leb, ltb}
@@ -14,7 +14,7 @@ use Rattle.frame.specs.Frame.{perOctet}
 use Rattle.reader.specs.declared.Hand.{Hand}
 use Rattle.reader.specs.declared.Reading.{Reading}
 use Rattle.reader.specs.Received.{rawAfter}
-use Rattle.reader.specs.Order.{Answer, refused, done, both, ends, rules, reading}
+use Rattle.reader.specs.Order.{Answer, refused, done, ends, rules, reading}
 use Rattle.reader.specs.Read.{told}
 
 -- before the first symbol
@@ -27,8 +27,8 @@ stopped x h =
     record { number = x; taken = h .taken; length = h .length; count = h .count; last = h .last; octet = h .octet }
 
 -- the raw symbol of a value, after a last one
-abbrev pub rawOf : Radio → ℕ → ℕ → ℕ
-rawOf r last v = rawAfter r (last % 2 ^ r .bits) (v % 2 ^ r .bits)
+abbrev pub rawFrom : Radio → ℕ → ℕ → ℕ
+rawFrom r last v = rawAfter r (last % 2 ^ r .bits) (v % 2 ^ r .bits)
 
 -- the octet in hand: a raw symbol enters at the top, and what was there moves down
 abbrev pub shifted : Radio → ℕ → ℕ → ℕ
@@ -43,21 +43,23 @@ abbrev pub moved : Hand → ℕ → ℕ → ℕ → ℕ → ℕ → Hand
 moved h x n d v octet =
     record { number = x; taken = (h .taken + 1) % 2 ^ 32; length = n; count = (h .count + d) % 2 ^ 32; last = v; octet = octet }
 
--- go on or done: moved; else stopped
-abbrev pub unless : ℕ → Hand → Hand → Hand
-unless x h next = pick (eqb x MORE) next (pick (eqb x DONE) next (stopped x h))
+-- the first where the number is no refusal, 13 or 0, else the second
+abbrev pub onward : {A : Type 0} → ℕ → A → A → A
+onward x a b = pick (eqb x MORE) a (pick (eqb x DONE) a b)
 
--- by the rules with room for every report
+-- moved or stopped, by the rules with room for every report
 abbrev pub ruled : ℕ → Hand → ℕ → ℕ → ℕ → ℕ → ℕ → Hand
-ruled per h raw octet n d v = unless (rules per 127 (h .taken) raw octet n) h (moved h (rules per 127 (h .taken) raw octet n) n d v octet)
+ruled per h raw octet n d v =
+    onward (rules per 127 (h .taken) raw octet n) (moved h (rules per 127 (h .taken) raw octet n) n d v octet) (stopped (rules per 127 (h .taken) raw octet n) h)
 
+-- the same, over the raw symbol alone
 abbrev pub shiftedBy : Radio → Hand → ℕ → ℕ → ℕ → Hand
 shiftedBy r h raw d v =
     ruled (perOctet r) h raw (shifted r (h .octet) raw) (lengthAfter (perOctet r) (h .taken) (h .length) (shifted r (h .octet) raw)) d v
 
 -- a symbol's value and distance taken
 unfoldable pub advanced : Radio → Hand → ℕ → ℕ → Hand
-advanced r h v d = shiftedBy r h (rawOf r (h .last) v) d v
+advanced r h v d = shiftedBy r h (rawFrom r (h .last) v) d v
 
 -- what follows a match
 unfoldable pub followed : ℕ → Hand → Symbol → Hand
@@ -77,8 +79,9 @@ keptIn per h octets =
     (pick (eqb (h .taken % per) 0) (pick (ltb (h .taken / per - 7) 127) (set octets (h .taken / per - 7) (h .octet % 256)) octets) octets)
     octets
 
+-- after a refusal, which took no symbol, none is kept
 unfoldable pub keptAt : ℕ → Hand → List ℕ → List ℕ
-keptAt mode h octets = pick (known mode) (keptIn (perOctet (radioOf mode)) h octets) octets
+keptAt mode h octets = pick (known mode) (onward (h .number) (keptIn (perOctet (radioOf mode)) h octets) octets) octets
 
 -- the answer of a hand that has ended, or whose chips have run out
 abbrev pub stoppedAt : ℕ → ℕ → Reading

@@ -3,14 +3,14 @@
 // what is still to be read stays the whole reading's answer (proofs/Scanning.antt).
 ghost use mathlib.Core.Path.{_≡_};
 ghost use mathlib.Core.Bool.{true};
-ghost use Prim.Native.Nat.{_+_, _*_, _≤_, _<_};
+ghost use Prim.Native.Nat.{_≤_, _<_};
 ghost use lib.ListN.{length};
 ghost use lib.Seq.{paste};
 ghost use Rattle.codes.specs.Radio.{known, radioOf};
 ghost use Rattle.frame.specs.Outcome.{outcome};
 ghost use Rattle.reader.specs.Order.{rules};
 ghost use Rattle.reader.specs.Read.{readOf};
-ghost use Rattle.reader.specs.Taking.{begun, stopped, rawOf, shifted, lengthAfter, moved, unless, followed, roomed, keptAt, toldBy, stoppedAt, Scanned};
+ghost use Rattle.reader.specs.Taking.{begun, stopped, rawFrom, shifted, lengthAfter, moved, onward, followed, roomed, keptAt, toldBy, stoppedAt, Scanned};
 
 // What the reader gives back: 0, the number of symbols in the frame, the report's length and the number of chips repaired; or a
 // refusal, the number of the symbol where it stands, 0 and 0.
@@ -48,8 +48,9 @@ pub fn read(mode: u32, chips: &[u8], report: &mut [u8]) -> Reading
     answer
 }
 
-// The reading order over the buffer. The test of the bytes has no exit, which makes it fast; the loop behind it finds the byte
-// that is no chip.
+// The reading order over the buffer. The test of a symbol's bytes has no exit, so that it can look at many at a time; only where it
+// finds one that is no chip does the loop over chips run, which then always leaves. A refusal leaves the loops with the hand's
+// number and place; the octet kept before the last test is the frame's last where that is done.
 fn scan(mode: u32, chips: &[u8], room: usize, octets: &mut [u8; 127]) -> Hand
     requires { ⌜ (known mode ≡ true) × (length (now octets) ≡ 127) ⌝ }
     ensures { λ r. ⌜ Scanned (radioOf mode) room (now (chips .entry)) (now (octets .exit)) r ⌝ }
@@ -108,8 +109,9 @@ fn stop(number: u32, hand: Hand) -> Hand
     }
 }
 
-// What follows a match, at the symbol after those taken: 1 and 6 to 9 in that order, 0 where the frame is complete, 13 where
-// more is wanted. A refusal leaves the other numbers as they were.
+// What follows a match, at the symbol after those taken: 1, the symbol's own number where it isn't 0, then 7, 8 and 9; 0 where the
+// frame is complete, 13 where more is wanted. A refusal leaves the other numbers as they were. The hand and the symbol may hold
+// anything: hence what is reduced or wraps below.
 pub fn follow(mode: u32, hand: Hand, symbol: codes::Symbol) -> Hand
     ensures { λ r. ⌜ r ≡ followed mode hand symbol ⌝ }
 {
@@ -129,12 +131,10 @@ pub fn follow(mode: u32, hand: Hand, symbol: codes::Symbol) -> Hand
 
 // One symbol more, unless the number is a refusal.
 fn advance(hand: Hand, number: u32, length: u32, symbol: codes::Symbol, octet: u32) -> Hand
-    ensures { λ r. ⌜ r ≡ unless number hand (moved hand number length (symbol .distance) (symbol .value) octet) ⌝ }
+    ensures { λ r. ⌜ r ≡ onward number (moved hand number length (symbol .distance) (symbol .value) octet) (stopped number hand) ⌝ }
 {
-    if number != codes::MORE {
-        if number != codes::DONE {
-            return stop(number, hand);
-        }
+    if number != codes::MORE && number != codes::DONE {
+        return stop(number, hand);
     }
     Hand {
         number,
@@ -149,7 +149,7 @@ fn advance(hand: Hand, number: u32, length: u32, symbol: codes::Symbol, octet: u
 // The raw symbol of a value, after the last one.
 fn raw_of(mode: u32, last: u32, value: u32) -> u32
     requires { ⌜ known mode ≡ true ⌝ }
-    ensures { λ r. ⌜ r ≡ rawOf (radioOf mode) last value ⌝ }
+    ensures { λ r. ⌜ r ≡ rawFrom (radioOf mode) last value ⌝ }
 {
     if mode == 0 {
         (last % 2 + value % 2) % 2
@@ -213,12 +213,16 @@ fn with_room(room: usize, hand: Hand, next: Hand) -> Hand
     next
 }
 
-// Keeps the octet in hand where it is whole and one of the report's.
+// Keeps the octet in hand where it is whole and one of the report's; after a refusal, which took no symbol, none. The hand may hold
+// anything: hence the tests that no reading fails.
 pub fn keep(mode: u32, hand: Hand, octets: &mut [u8; 127])
     ensures { λ _. ⌜ now (octets .exit) ≡ keptAt mode hand (now (octets .entry)) ⌝ }
 {
     let per = frame::per_octet(mode);
     if per == 0 {
+        return;
+    }
+    if hand.number != codes::MORE && hand.number != codes::DONE {
         return;
     }
     let taken = hand.taken as usize;

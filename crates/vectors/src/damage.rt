@@ -1,173 +1,128 @@
-// What is done to a frame's chips before they are read. A place that the buffer doesn't have is left alone.
-ghost use Prim.Native.Nat.{_≤_};
+// A case: which frame is written, what is done to its chips, and how much of them and of the report buffer the reader is lent. The
+// proofs go through because `apply` tests a chip's place before it changes the chip, and because the places and sizes given here have
+// bounds, by which the sums and differences made of them fit.
+ghost use Prim.Native.Nat.{_*_, _≤_};
+use crate::LONGEST;
 
-// So many chips of one symbol, from one of them on.
-pub struct Part {
-    pub symbol: u32,
-    pub from: u32,
-    pub count: u32,
+// Of a mode's radio: chips in a symbol, and the accepted distance.
+pub struct Radio {
+    pub size: usize,
+    pub limit: usize,
 }
 
-// The places of a buffer that are a part.
-struct Span {
-    from: usize,
-    to: usize,
-}
-
-// Chips in a symbol.
-pub fn size(mode: u32) -> u32 {
-    if mode == 0 { 15 } else { 32 }
-}
-
-// The accepted distance.
-pub fn limit(mode: u32) -> u32
-    ensures { λ r. ⌜ r ≤ 6 ⌝ }
+pub fn radio_of(mode: u32) -> Radio
+    ensures { λ r. ⌜ (15 ≤ r .size) × (r .size ≤ 32) × (r .limit ≤ 6) ⌝ }
 {
-    if mode == 0 { 6 } else { 5 }
-}
-
-// The first symbol of an octet of the frame.
-pub fn first_of(mode: u32, octet: u8) -> u32 {
     if mode == 0 {
-        octet as u32 * 8
+        Radio { size: 15, limit: 6 }
     } else {
-        octet as u32 * 2
+        Radio { size: 32, limit: 5 }
     }
 }
 
-// The last one.
-pub fn last_of(mode: u32, octet: u8) -> u32 {
-    if mode == 0 {
-        octet as u32 * 8 + 7
-    } else {
-        octet as u32 * 2 + 1
-    }
-}
-
-// The place of a symbol's first chip.
-pub fn place(mode: u32, symbol: u32) -> usize {
-    if mode == 0 {
-        symbol as usize * 15
-    } else {
-        symbol as usize * 32
-    }
-}
-
-pub fn whole(mode: u32, symbol: u32) -> Part {
-    Part {
-        symbol,
-        from: 0,
-        count: size(mode),
-    }
-}
-
-pub fn first_chips(symbol: u32, count: u32) -> Part {
-    Part {
-        symbol,
-        from: 0,
-        count,
-    }
-}
-
-pub fn last_chips(mode: u32, symbol: u32, count: u32) -> Part {
-    let all = size(mode);
-    if all < count {
-        return first_chips(symbol, 0);
-    }
-    Part {
-        symbol,
-        from: all - count,
-        count,
-    }
-}
-
-// Where a part stands in a buffer of so many chips; the empty span where it doesn't.
-fn found(mode: u32, part: Part, length: usize) -> Span
-    ensures { λ r. ⌜ (r .from ≤ r .to) × (r .to ≤ length) ⌝ }
+// The place of the first chip of an octet of the frame, which is also where the octet before it ends.
+pub fn octet_at(mode: u32, octet: u32) -> usize
+    ensures { λ r. ⌜ (octet * 64 ≤ r) × (r ≤ octet * 120) ⌝ }
 {
-    let start = place(mode, part.symbol);
-    let from = part.from as usize;
-    let count = part.count as usize;
-    if length < start {
-        return Span { from: 0, to: 0 };
-    }
-    if length - start < from {
-        return Span { from: 0, to: 0 };
-    }
-    if length - start - from < count {
-        return Span { from: 0, to: 0 };
-    }
-    Span {
-        from: start + from,
-        to: start + from + count,
+    if mode == 0 {
+        octet as usize * 120
+    } else {
+        octet as usize * 64
     }
 }
 
-// Puts one byte in the place of each chip of a part.
-pub fn set(mode: u32, chips: &mut [u8], part: Part, byte: u8) {
-    let span = found(mode, part, chips.len());
-    let from = span.from;
-    let to = span.to;
-    fill(&mut chips[from..to], byte);
+// The frame is written in one mode and read in another where the case is a mode without a radio. Changed are `count` chips from `at`
+// on, and again after each `step` chips: a 0 becomes `zero`, and all else `one`.
+pub struct Case {
+    pub written: u32,
+    pub read: u32,
+    pub octets: usize,
+    pub chips: usize,
+    pub room: usize,
+    at: usize,
+    count: usize,
+    step: usize,
+    zero: u8,
+    one: u8,
 }
 
-pub fn fill(bytes: &mut [u8], byte: u8) {
-    let mut i: usize = 0;
-    while i < bytes.len() {
-        bytes[i] = byte;
-        i += 1;
+impl Case {
+    // The whole frame of so many octets, as it was written, with room for any report. The step is as long as the buffer,
+    // so a change is made once.
+    pub fn frame(mode: u32, octets: u8) -> Self
+        ensures { λ r. ⌜ 384 ≤ r .chips ⌝ }
+    {
+        Self {
+            written: mode,
+            read: mode,
+            octets: octets as usize,
+            chips: octet_at(mode, 6 + octets as u32),
+            room: 127,
+            at: 0,
+            count: 0,
+            step: LONGEST,
+            zero: 0,
+            one: 1,
+        }
     }
-}
 
-// Inverts each chip of a part.
-pub fn flip(mode: u32, chips: &mut [u8], part: Part) {
-    let span = found(mode, part, chips.len());
-    let from = span.from;
-    let to = span.to;
-    invert(&mut chips[from..to]);
-}
-
-pub fn invert(chips: &mut [u8]) {
-    let mut i: usize = 0;
-    while i < chips.len() {
-        chips[i] = inverse(chips[i]);
-        i += 1;
+    pub fn with_room(mut self, room: usize) -> Self {
+        self.room = room;
+        self
     }
-}
 
-fn inverse(chip: u8) -> u8 {
-    if chip == 0 { 1 } else { 0 }
-}
-
-// The first chips of each of so many symbols inverted, as many as the limit allows.
-pub fn flip_firsts(mode: u32, chips: &mut [u8], symbols: u32) {
-    let mut symbol: u32 = 0;
-    while symbol < symbols {
-        flip(mode, chips, first_chips(symbol, limit(mode)));
-        symbol += 1;
+    pub fn with_chips(mut self, chips: usize) -> Self {
+        self.chips = chips;
+        self
     }
-}
 
-// The same with the last chips of each.
-pub fn flip_lasts(mode: u32, chips: &mut [u8], symbols: u32) {
-    let mut symbol: u32 = 0;
-    while symbol < symbols {
-        flip(mode, chips, last_chips(mode, symbol, limit(mode)));
-        symbol += 1;
+    pub fn read_as(mut self, mode: u32) -> Self {
+        self.read = mode;
+        self
     }
-}
 
-// None in the first symbol, one in the next, up to the limit, and again from none.
-pub fn flip_in_turn(mode: u32, chips: &mut [u8], symbols: u32) {
-    let mut count: u32 = 0;
-    let mut symbol: u32 = 0;
-    while symbol < symbols {
-        flip(mode, chips, first_chips(symbol, count));
-        count = next_count(mode, count);
-        symbol += 1;
+    // One byte in the place of each of so many chips.
+    pub fn put(mut self, at: usize, count: usize, byte: u8) -> Self {
+        self.at = at;
+        self.count = count;
+        self.zero = byte;
+        self.one = byte;
+        self
     }
-}
 
-fn next_count(mode: u32, count: u32) -> u32 {
-    if count < limit(mode) { count + 1 } else { 0 }
+    // So many chips inverted.
+    pub fn flip(mut self, at: usize, count: usize) -> Self {
+        self.at = at;
+        self.count = count;
+        self.zero = 1;
+        self.one = 0;
+        self
+    }
+
+    // The same in every symbol from there on.
+    pub fn every(mut self, size: usize) -> Self {
+        self.step = size;
+        self
+    }
+
+    // Makes the change.
+    pub fn apply(self, chips: &mut [u8]) {
+        let at = self.at;
+        let mut i = at;
+        while i < chips.len() {
+            chips[i] = self.changed(i - at, chips[i]);
+            i += 1;
+        }
+    }
+
+    // What becomes of a chip, so many places behind the first one that is changed.
+    fn changed(self, behind: usize, chip: u8) -> u8 {
+        if self.step == 0 {
+            return chip;
+        }
+        if self.count <= behind % self.step {
+            return chip;
+        }
+        if chip == 0 { self.zero } else { self.one }
+    }
 }

@@ -1,32 +1,21 @@
 // One reading, one line: the case, what was asked, the four numbers, how many bytes of the lent buffer changed and, where done,
-// whether the report is the one sent, and its octets.
-use crate::damage::fill;
+// whether the report is the one sent, and its octets. The proofs go through because a place is tested before it is used; what is
+// printed isn't proved but compared.
 use crate::number;
 use libc::STDOUT_FILENO;
 
 // What the lent buffer holds before each reading. No octet that is sent has this value, so a stored one is a changed one.
 const BEFORE: u8 = 0xEE;
 
-// Reads so many chips of the buffer into so much of the room.
-pub fn read_line(
-    what: &[u8],
-    mode: u32,
-    chips: &[u8],
-    count: usize,
-    sent: &[u8],
-    lent: &mut [u8],
-    room: usize,
-) {
-    if chips.len() < count {
+// Reads the chips into so many bytes of the lent buffer.
+pub fn read_line(what: &[u8], mode: u32, chips: &[u8], sent: &[u8], room: usize) {
+    let mut lent = [BEFORE; 200];
+    if 200 < room {
         return;
     }
-    if lent.len() < room {
-        return;
-    }
-    fill(lent, BEFORE);
-    asked(what, mode, count, room);
-    let reading = reader::read(mode, &chips[..count], &mut lent[..room]);
-    answered(reading, sent, lent);
+    asked(what, mode, chips.len(), room);
+    let reading = reader::read(mode, chips, &mut lent[..room]);
+    answered(reading, sent, &lent);
 }
 
 fn asked(what: &[u8], mode: u32, count: usize, room: usize) {
@@ -37,7 +26,7 @@ fn asked(what: &[u8], mode: u32, count: usize, room: usize) {
     number(room as u64, b" gives ");
 }
 
-fn answered(reading: reader::Reading, sent: &[u8], lent: &[u8]) {
+fn answered(reading: reader::Reading, sent: &[u8], lent: &[u8; 200]) {
     number(reading.number as u64, b" ");
     number(reading.place as u64, b" ");
     number(reading.n as u64, b" ");

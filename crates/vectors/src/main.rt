@@ -1,5 +1,8 @@
-// The cases of document 01 that are run and compared only. Each line is compared with the file stdout, whose chip strings were
-// made of tables 21 and 24 of the draft standard, and its readings of the rules of document 01, and not by this code.
+// Runs the writer and the reader on chosen cases and prints what they answer, to be compared with the file stdout. The chip strings
+// there were made of tables 21 and 24 of the draft standard, and the other lines were worked out from the rules of document 01:
+// neither by this code. What is printed isn't proved but compared; the proofs show that no place outside a buffer is used and that
+// each loop ends. They go through because a place is tested before it is used, and because the writer promises a count that fits the
+// buffer (`chips-fit`). A case that didn't fit would print no line, and the comparison would show that.
 ghost use mathlib.Core.Path.{_≡_};
 ghost use lib.ListN.{length};
 use libc::STDOUT_FILENO;
@@ -7,6 +10,9 @@ use libc::STDOUT_FILENO;
 mod damage;
 mod lines;
 mod reads;
+
+// The chips of the longest frame.
+const LONGEST: usize = 15960;
 
 fn main() {
     let report = [0x5Au8; 128];
@@ -26,14 +32,14 @@ fn main() {
     whole_frame(1, b"", &mut chips);
     whole_frame(0, b"rope 12 wet", &mut chips);
     whole_frame(1, b"rope 12 wet", &mut chips);
-    reads::all(&mut chips);
+    reads::all();
 }
 
-// Room for the longest frame.
-fn buffer() -> [u8; 15960]
+// Room for the longest frame, with no chip in it: what the writer leaves alone stays 255.
+fn buffer() -> [u8; LONGEST]
     ensures { λ r. ⌜ 15960 ≡ length r ⌝ }
 {
-    [0; 15960]
+    [255; LONGEST]
 }
 
 // The first so many octets written into so much of the room: prints mode, octets, room, number, chips.

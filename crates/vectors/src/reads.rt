@@ -1,19 +1,59 @@
-// The readings: frames as the writer made them, cut, damaged, and with other octets than a frame's. Each function writes its frame
-// anew, so that no case depends on the one before it.
+// The readings: frames as the writer made them, cut, damaged, and with other octets than a frame's. Each reading has a frame of its
+// own, so no case depends on another. The proofs go through because lengths are tested before they are used and because places of
+// chips come with bounds; those are reckoned first in each function, where the bounds are still at hand. What is printed isn't proved
+// but compared.
 ghost use mathlib.Core.Path.{_≡_};
 ghost use lib.ListN.{length};
-use crate::damage;
-use crate::damage::Part;
+use crate::LONGEST;
+use crate::buffer;
+use crate::damage::Case;
+use crate::damage::octet_at;
+use crate::damage::radio_of;
 use crate::lines::read_line;
 
 // Every case.
-pub fn all(chips: &mut [u8]) {
+pub fn all() {
+    of_mode(0);
+    of_mode(1);
+    no_radio();
+}
+
+// Every case of one radio. A report of five octets is octets 6 to 10 of its frame; one of 127 ends before octet 133.
+fn of_mode(mode: u32) {
+    rooms(mode);
+    behind(mode);
+    cuts(mode);
+    bytes(mode);
+    flats(mode);
+    limits(mode);
+    everywhere(mode, 5);
+    everywhere(mode, 127);
+    inverted(mode);
+    at_the_end(mode);
+    headers(mode);
+}
+
+// Reads the frame of a case after its change. A flip of no chips changes nothing.
+fn line(what: &[u8], case: Case) {
+    twice(what, case, case.flip(0, 0));
+}
+
+// The same with the change of another case after the first.
+fn twice(what: &[u8], case: Case, then: Case) {
     let octets = sample();
-    let mut lent = [0u8; 200];
-    of_mode(0, &octets, chips, &mut lent);
-    of_mode(1, &octets, chips, &mut lent);
-    other_modes(&octets, chips, &mut lent);
-    odd_modes(&octets, chips, &mut lent);
+    let mut chips = buffer();
+    let n = case.octets;
+    let count = case.chips;
+    if 127 < n {
+        return;
+    }
+    if LONGEST < count {
+        return;
+    }
+    frame::write(case.written, &octets[..n], &mut chips);
+    case.apply(&mut chips);
+    then.apply(&mut chips);
+    read_line(what, case.read, &chips[..count], &octets[..n], case.room);
 }
 
 // Octets that differ from one to the next, and none that the lent buffer holds before a reading.
@@ -29,606 +69,202 @@ fn sample() -> [u8; 127]
     octets
 }
 
-// Every case of one radio.
-fn of_mode(mode: u32, octets: &[u8], chips: &mut [u8], lent: &mut [u8]) {
-    if octets.len() < 5 {
-        return;
-    }
-    let none = &octets[..0];
-    let five = &octets[..5];
-    with_none(mode, none, chips, lent);
-    with_five(mode, five, chips, lent);
-    with_all(mode, octets, chips, lent);
-    headers(mode, chips, lent);
-    lengths(mode, chips, lent);
+// Less room than the report needs, just enough, and more.
+fn rooms(mode: u32) {
+    let none = Case::frame(mode, 0);
+    let five = Case::frame(mode, 5);
+    let longest = Case::frame(mode, 127);
+    line(b"room exact", none.with_room(0));
+    line(b"room for any report", none);
+    line(b"room left over", none.with_room(200));
+    line(b"room one short", five.with_room(4));
+    line(b"room exact", five.with_room(5));
+    line(b"room for any report", five);
+    line(b"room one short", longest.with_room(126));
+    line(b"room exact", longest);
+    line(b"room left over", longest.with_room(200));
 }
 
-// The cases of an empty report.
-fn with_none(mode: u32, report: &[u8], chips: &mut [u8], lent: &mut [u8]) {
-    rooms(mode, report, chips, lent);
-    any_room(mode, report, chips, lent);
-    cut_last(mode, report, chips, lent);
-    after(mode, report, chips, lent);
+// What stands behind the frame is lent to the reader as well, and must not be looked at.
+fn behind(mode: u32) {
+    let none = Case::frame(mode, 0);
+    let five = Case::frame(mode, 5);
+    line(b"bytes 255 behind the frame", none.with_chips(LONGEST));
+    line(b"bytes 255 behind the frame", five.with_chips(LONGEST));
 }
 
-// The cases of a report of five octets, which are octets 6 to 10 of its frame.
-fn with_five(mode: u32, report: &[u8], chips: &mut [u8], lent: &mut [u8]) {
-    undamaged(mode, report, chips, lent);
-    damaged(mode, report, chips, lent);
-    limits(mode, report, chips, lent);
-    everywhere(mode, report, damage::first_of(mode, 11), chips, lent);
-    inverted(mode, report, chips, lent);
-}
-
-fn undamaged(mode: u32, report: &[u8], chips: &mut [u8], lent: &mut [u8]) {
-    rooms(mode, report, chips, lent);
-    any_room(mode, report, chips, lent);
-    after(mode, report, chips, lent);
-    cuts(mode, report, chips, lent);
-}
-
-fn cuts(mode: u32, report: &[u8], chips: &mut [u8], lent: &mut [u8]) {
-    early(mode, report, chips, lent);
-    inside(mode, report, chips, lent);
-    cut_last(mode, report, chips, lent);
-    cut_and_byte(mode, report, chips, lent);
-}
-
-fn damaged(mode: u32, report: &[u8], chips: &mut [u8], lent: &mut [u8]) {
-    bytes(mode, report, chips, lent);
-    flat_and_byte(b"byte 2 in a flat symbol", mode, report, 2, chips, lent);
-    flat_and_byte(b"byte 255 in a flat symbol", mode, report, 255, chips, lent);
-    flats(mode, report, chips, lent);
-}
-
-// The cases of a report of 127 octets, which are octets 6 to 132 of its frame.
-fn with_all(mode: u32, report: &[u8], chips: &mut [u8], lent: &mut [u8]) {
-    rooms(mode, report, chips, lent);
-    at_the_end(mode, report, chips, lent);
-    everywhere(mode, report, damage::first_of(mode, 133), chips, lent);
-}
-
-// Writes a frame and gives its chip count.
-fn sent(mode: u32, report: &[u8], chips: &mut [u8]) -> usize {
-    let written = frame::write(mode, report, chips);
-    written.chips as usize
-}
-
-// One byte too few, just enough, and more than any report needs.
-fn rooms(mode: u32, report: &[u8], chips: &mut [u8], lent: &mut [u8]) {
-    let count = sent(mode, report, chips);
-    short_room(mode, chips, count, report, lent);
-    read_line(
-        b"room exact",
-        mode,
-        chips,
-        count,
-        report,
-        lent,
-        report.len(),
+// Frames that end too early. On the last symbol of the length octet too little room is refused, though no chip comes after it.
+fn cuts(mode: u32) {
+    let none = Case::frame(mode, 0);
+    let five = Case::frame(mode, 5);
+    let size = radio_of(mode).size;
+    let first = size - 1;
+    let last = five.chips - size;
+    let inside = octet_at(mode, 9) - 1;
+    let empty = none.with_chips(none.chips - 1);
+    let short = five.with_chips(five.chips - 1);
+    let header = five.with_chips(none.chips);
+    line(b"no chips", five.with_chips(0));
+    line(b"first symbol cut", five.with_chips(first));
+    line(b"cut after the length octet", header);
+    line(
+        b"cut after the length octet, room one short",
+        header.with_room(4),
     );
-    read_line(b"room left over", mode, chips, count, report, lent, 200);
+    line(b"cut in a symbol of the report", five.with_chips(inside));
+    line(b"last symbol cut", empty);
+    line(b"last symbol cut", short);
+    line(b"last symbol cut, byte 255 in it", short.put(last, 1, 255));
 }
 
-fn short_room(mode: u32, chips: &[u8], count: usize, report: &[u8], lent: &mut [u8]) {
-    let room = report.len();
-    if room == 0 {
-        return;
-    }
-    read_line(
-        b"room one short",
-        mode,
-        chips,
-        count,
-        report,
-        lent,
-        room - 1,
-    );
+// The lowest and the highest byte that is no chip.
+fn bytes(mode: u32) {
+    let five = Case::frame(mode, 5);
+    let inside = octet_at(mode, 8) + 7;
+    let last = five.chips - 1;
+    line(b"byte 2, first chip", five.put(0, 1, 2));
+    line(b"byte 255, first chip", five.put(0, 1, 255));
+    line(b"byte 2 in the report", five.put(inside, 1, 2));
+    line(b"byte 255 in the report", five.put(inside, 1, 255));
+    line(b"byte 2, last chip", five.put(last, 1, 2));
+    line(b"byte 255, last chip", five.put(last, 1, 255));
 }
 
-// Room for the longest report.
-fn any_room(mode: u32, report: &[u8], chips: &mut [u8], lent: &mut [u8]) {
-    let count = sent(mode, report, chips);
-    read_line(
-        b"room for any report",
-        mode,
-        chips,
-        count,
-        report,
-        lent,
-        127,
-    );
-}
-
-// Frames that end by the first symbol.
-fn early(mode: u32, report: &[u8], chips: &mut [u8], lent: &mut [u8]) {
-    sent(mode, report, chips);
-    let size = damage::place(mode, 1);
-    read_line(b"no chips", mode, chips, 0, report, lent, 127);
-    one_less(b"first symbol cut", mode, chips, size, report, lent);
-    read_line(b"first symbol alone", mode, chips, size, report, lent, 127);
-}
-
-// Frames that end in their report.
-fn inside(mode: u32, report: &[u8], chips: &mut [u8], lent: &mut [u8]) {
-    sent(mode, report, chips);
-    let before = damage::place(mode, damage::first_of(mode, 8));
-    let after = damage::place(mode, damage::first_of(mode, 9));
-    read_line(
-        b"cut before a symbol of the report",
-        mode,
-        chips,
-        before,
-        report,
-        lent,
-        127,
-    );
-    one_less(
-        b"cut in a symbol of the report",
-        mode,
-        chips,
-        after,
-        report,
-        lent,
-    );
-}
-
-// A frame without its last chip.
-fn cut_last(mode: u32, report: &[u8], chips: &mut [u8], lent: &mut [u8]) {
-    let count = sent(mode, report, chips);
-    one_less(b"last symbol cut", mode, chips, count, report, lent);
-}
-
-// A byte that is no chip in a symbol that isn't whole.
-fn cut_and_byte(mode: u32, report: &[u8], chips: &mut [u8], lent: &mut [u8]) {
-    let count = sent(mode, report, chips);
-    let last = damage::last_of(mode, 10);
-    damage::set(mode, chips, damage::first_chips(last, 1), 255);
-    one_less(
-        b"last symbol cut, byte 255 in it",
-        mode,
-        chips,
-        count,
-        report,
-        lent,
-    );
-}
-
-// All but the last of so many chips.
-fn one_less(what: &[u8], mode: u32, chips: &[u8], count: usize, report: &[u8], lent: &mut [u8]) {
-    if count == 0 {
-        return;
-    }
-    read_line(what, mode, chips, count - 1, report, lent, 127);
-}
-
-// A frame with a byte in the place of some chips.
-fn set_line(
-    what: &[u8],
-    mode: u32,
-    report: &[u8],
-    part: Part,
-    byte: u8,
-    chips: &mut [u8],
-    lent: &mut [u8],
-) {
-    let count = sent(mode, report, chips);
-    damage::set(mode, chips, part, byte);
-    read_line(what, mode, chips, count, report, lent, 127);
-}
-
-// The same with the lowest and the highest byte that is no chip.
-fn byte_lines(
-    two: &[u8],
-    highest: &[u8],
-    mode: u32,
-    report: &[u8],
-    part: Part,
-    chips: &mut [u8],
-    lent: &mut [u8],
-) {
-    set_line(two, mode, report, part, 2, chips, lent);
-    set_line(highest, mode, report, part, 255, chips, lent);
-}
-
-// A frame with a symbol of one chip over and over.
-fn flat_lines(
-    zeros: &[u8],
-    ones: &[u8],
-    mode: u32,
-    report: &[u8],
-    symbol: u32,
-    chips: &mut [u8],
-    lent: &mut [u8],
-) {
-    let part = damage::whole(mode, symbol);
-    set_line(zeros, mode, report, part, 0, chips, lent);
-    set_line(ones, mode, report, part, 1, chips, lent);
-}
-
-// A frame with some chips inverted.
-fn flip_line(what: &[u8], mode: u32, report: &[u8], part: Part, chips: &mut [u8], lent: &mut [u8]) {
-    let count = sent(mode, report, chips);
-    damage::flip(mode, chips, part);
-    read_line(what, mode, chips, count, report, lent, 127);
-}
-
-// Bytes that are no chips.
-fn bytes(mode: u32, report: &[u8], chips: &mut [u8], lent: &mut [u8]) {
-    let first = damage::first_chips(0, 1);
-    let inside = damage::last_chips(mode, damage::first_of(mode, 8), 1);
-    let last = damage::last_chips(mode, damage::last_of(mode, 10), 1);
-    byte_lines(
-        b"byte 2, first chip",
-        b"byte 255, first chip",
-        mode,
-        report,
-        first,
-        chips,
-        lent,
-    );
-    byte_lines(
-        b"byte 2 in the report",
-        b"byte 255 in the report",
-        mode,
-        report,
-        inside,
-        chips,
-        lent,
-    );
-    byte_lines(
-        b"byte 2, last chip",
-        b"byte 255, last chip",
-        mode,
-        report,
-        last,
-        chips,
-        lent,
-    );
-}
-
-// A symbol that would be lost if its last byte were a chip.
-fn flat_and_byte(
-    what: &[u8],
-    mode: u32,
-    report: &[u8],
-    byte: u8,
-    chips: &mut [u8],
-    lent: &mut [u8],
-) {
-    let count = sent(mode, report, chips);
-    let symbol = damage::first_of(mode, 8);
-    damage::set(mode, chips, damage::whole(mode, symbol), 0);
-    damage::set(mode, chips, damage::last_chips(mode, symbol, 1), byte);
-    read_line(what, mode, chips, count, report, lent, 127);
-}
-
-fn flats(mode: u32, report: &[u8], chips: &mut [u8], lent: &mut [u8]) {
-    let start = damage::first_of(mode, 4);
-    let length = damage::last_of(mode, 5);
-    let inside = damage::first_of(mode, 8);
-    flat_lines(
-        b"flat 0 first",
-        b"flat 1 first",
-        mode,
-        report,
-        0,
-        chips,
-        lent,
-    );
-    flat_lines(
-        b"flat 0 in the start octet",
-        b"flat 1 in the start octet",
-        mode,
-        report,
-        start,
-        chips,
-        lent,
-    );
-    flat_lines(
-        b"flat 0 in the length octet",
-        b"flat 1 in the length octet",
-        mode,
-        report,
-        length,
-        chips,
-        lent,
-    );
-    flat_lines(
-        b"flat 0 in the report",
-        b"flat 1 in the report",
-        mode,
-        report,
-        inside,
-        chips,
-        lent,
-    );
-}
-
-// Refusals in the last symbol of 127 octets, when all the others are read.
-fn at_the_end(mode: u32, report: &[u8], chips: &mut [u8], lent: &mut [u8]) {
-    let symbol = damage::last_of(mode, 132);
-    let last = damage::last_chips(mode, symbol, 1);
-    flat_lines(
-        b"flat 0 last",
-        b"flat 1 last",
-        mode,
-        report,
-        symbol,
-        chips,
-        lent,
-    );
-    set_line(b"byte 2, last chip", mode, report, last, 2, chips, lent);
-    cut_last(mode, report, chips, lent);
+// Symbols of one byte over and over. Flat 2 and flat 255 lie past the limit from every word as well, whether the places that differ
+// are counted, or those of the lowest bits, or the differences are added up, even where that sum wraps in a byte: a reader that
+// looked for a word before it looked at the bytes would answer 6 there.
+fn flats(mode: u32) {
+    let five = Case::frame(mode, 5);
+    let size = radio_of(mode).size;
+    let start = octet_at(mode, 4);
+    let length = octet_at(mode, 6) - size;
+    let inside = octet_at(mode, 8);
+    line(b"flat 0 first", five.put(0, size, 0));
+    line(b"flat 1 first", five.put(0, size, 1));
+    line(b"flat 0 in the start octet", five.put(start, size, 0));
+    line(b"flat 1 in the start octet", five.put(start, size, 1));
+    line(b"flat 0 in the length octet", five.put(length, size, 0));
+    line(b"flat 1 in the length octet", five.put(length, size, 1));
+    line(b"flat 0 in the report", five.put(inside, size, 0));
+    line(b"flat 1 in the report", five.put(inside, size, 1));
+    line(b"flat 2 in the report", five.put(inside, size, 2));
+    line(b"flat 255 in the report", five.put(inside, size, 255));
 }
 
 // As many errors as a symbol may have, and one more. Nine make one mode 0 word read as the other.
-fn limits(mode: u32, report: &[u8], chips: &mut [u8], lent: &mut [u8]) {
-    let inside = damage::first_of(mode, 8);
-    let last = damage::last_of(mode, 10);
-    first_errors(mode, report, 0, chips, lent);
-    first_errors(mode, report, inside, chips, lent);
-    last_errors(mode, report, inside, chips, lent);
-    flip_line(
-        b"nine errors",
-        mode,
-        report,
-        damage::first_chips(last, 9),
-        chips,
-        lent,
+fn limits(mode: u32) {
+    let five = Case::frame(mode, 5);
+    let radio = radio_of(mode);
+    let inside = octet_at(mode, 8);
+    let most = radio.limit;
+    let more = most + 1;
+    let end = inside + radio.size;
+    let last_most = end - most;
+    let last_more = end - more;
+    let last = five.chips - radio.size;
+    line(
+        b"first chips wrong at the start, at the limit",
+        five.flip(0, most),
     );
+    line(
+        b"first chips wrong at the start, past the limit",
+        five.flip(0, more),
+    );
+    line(
+        b"first chips wrong in the report, at the limit",
+        five.flip(inside, most),
+    );
+    line(
+        b"first chips wrong in the report, past the limit",
+        five.flip(inside, more),
+    );
+    line(
+        b"last chips wrong in the report, at the limit",
+        five.flip(last_most, most),
+    );
+    line(
+        b"last chips wrong in the report, past the limit",
+        five.flip(last_more, more),
+    );
+    line(b"nine errors in the last symbol", five.flip(last, 9));
 }
 
-fn first_errors(mode: u32, report: &[u8], symbol: u32, chips: &mut [u8], lent: &mut [u8]) {
-    let most = damage::limit(mode);
-    let at = damage::first_chips(symbol, most);
-    let past = damage::first_chips(symbol, most + 1);
-    flip_line(
-        b"first chips wrong, at the limit",
-        mode,
-        report,
-        at,
-        chips,
-        lent,
-    );
-    flip_line(
-        b"first chips wrong, past the limit",
-        mode,
-        report,
-        past,
-        chips,
-        lent,
-    );
-}
-
-fn last_errors(mode: u32, report: &[u8], symbol: u32, chips: &mut [u8], lent: &mut [u8]) {
-    let most = damage::limit(mode);
-    let at = damage::last_chips(mode, symbol, most);
-    let past = damage::last_chips(mode, symbol, most + 1);
-    flip_line(
-        b"last chips wrong, at the limit",
-        mode,
-        report,
-        at,
-        chips,
-        lent,
-    );
-    flip_line(
-        b"last chips wrong, past the limit",
-        mode,
-        report,
-        past,
-        chips,
-        lent,
-    );
-}
-
-// Errors in every symbol of a frame of so many.
-fn everywhere(mode: u32, report: &[u8], symbols: u32, chips: &mut [u8], lent: &mut [u8]) {
-    firsts_wrong(mode, report, symbols, chips, lent);
-    lasts_wrong(mode, report, symbols, chips, lent);
-    some_wrong(mode, report, symbols, chips, lent);
-}
-
-// As many as the limit, and then one more in the last symbol.
-fn firsts_wrong(mode: u32, report: &[u8], symbols: u32, chips: &mut [u8], lent: &mut [u8]) {
-    if symbols == 0 {
-        return;
-    }
-    let last = damage::last_chips(mode, symbols - 1, 1);
-    let count = sent(mode, report, chips);
-    damage::flip_firsts(mode, chips, symbols);
-    read_line(
-        b"first chips of every symbol wrong, at the limit",
-        mode,
-        chips,
-        count,
-        report,
-        lent,
-        127,
-    );
-    damage::flip(mode, chips, last);
-    read_line(
-        b"and past it in the last",
-        mode,
-        chips,
-        count,
-        report,
-        lent,
-        127,
-    );
-}
-
-fn lasts_wrong(mode: u32, report: &[u8], symbols: u32, chips: &mut [u8], lent: &mut [u8]) {
-    let count = sent(mode, report, chips);
-    damage::flip_lasts(mode, chips, symbols);
-    read_line(
-        b"last chips of every symbol wrong, at the limit",
-        mode,
-        chips,
-        count,
-        report,
-        lent,
-        127,
-    );
-}
-
-fn some_wrong(mode: u32, report: &[u8], symbols: u32, chips: &mut [u8], lent: &mut [u8]) {
-    let count = sent(mode, report, chips);
-    damage::flip_in_turn(mode, chips, symbols);
-    read_line(
-        b"wrong chips from none to the limit, symbol by symbol",
-        mode,
-        chips,
-        count,
-        report,
-        lent,
-        127,
-    );
-}
-
-// The rest of the buffer is read as well, and has no chip in it.
-fn after(mode: u32, report: &[u8], chips: &mut [u8], lent: &mut [u8]) {
-    let count = chips.len();
-    damage::fill(chips, 255);
-    sent(mode, report, chips);
-    read_line(
-        b"bytes 255 after the frame",
-        mode,
-        chips,
-        count,
-        report,
-        lent,
-        127,
+// Errors in every symbol.
+fn everywhere(mode: u32, octets: u8) {
+    let case = Case::frame(mode, octets);
+    let radio = radio_of(mode);
+    let size = radio.size;
+    let most = radio.limit;
+    let last = case.flip(case.chips - 1, 1);
+    let lasts = case.flip(size - most, most).every(size);
+    let firsts = case.flip(0, most).every(size);
+    line(b"first chips of every symbol wrong, at the limit", firsts);
+    line(b"last chips of every symbol wrong, at the limit", lasts);
+    twice(
+        b"first chips of every symbol wrong, past the limit in the last",
+        firsts,
+        last,
     );
 }
 
 // Mode 0 tells a word from its inverse only by the word before it: inverted from the first symbol on, the preamble isn't zero;
 // from the report on, one bit differs.
-fn inverted(mode: u32, report: &[u8], chips: &mut [u8], lent: &mut [u8]) {
-    inverted_from(b"every chip inverted", mode, report, 0, chips, lent);
-    inverted_from(
+fn inverted(mode: u32) {
+    let five = Case::frame(mode, 5);
+    let report = octet_at(mode, 6);
+    line(b"every chip inverted", five.flip(0, five.chips));
+    line(
         b"every chip of the report inverted",
-        mode,
-        report,
-        6,
-        chips,
-        lent,
+        five.flip(report, five.chips),
     );
 }
 
-fn inverted_from(
-    what: &[u8],
-    mode: u32,
-    report: &[u8],
-    octet: u8,
-    chips: &mut [u8],
-    lent: &mut [u8],
-) {
-    let count = sent(mode, report, chips);
-    let from = damage::place(mode, damage::first_of(mode, octet));
-    if chips.len() < from {
-        return;
-    }
-    damage::invert(&mut chips[from..]);
-    read_line(what, mode, chips, count, report, lent, 127);
+// Refusals in the last symbol of 127 octets, when all the others are read.
+fn at_the_end(mode: u32) {
+    let longest = Case::frame(mode, 127);
+    let size = radio_of(mode).size;
+    let symbol = longest.chips - size;
+    let chip = longest.chips - 1;
+    line(b"flat 0 last", longest.put(symbol, size, 0));
+    line(b"flat 1 last", longest.put(symbol, size, 1));
+    line(b"byte 2, last chip", longest.put(chip, 1, 2));
+    line(b"last symbol cut", longest.with_chips(chip));
 }
 
-// Preambles and start octets.
-fn headers(mode: u32, chips: &mut [u8], lent: &mut [u8]) {
-    header(b"octets of a frame", mode, 0, 0xA7, 1, chips, lent, 127);
-    header(
-        b"last symbol of the preamble not 0",
-        mode,
-        0x80,
-        0xA7,
-        1,
-        chips,
-        lent,
-        127,
-    );
-    header(b"start octet 0xE5", mode, 0, 0xE5, 1, chips, lent, 127);
-    header(b"start octet 0xE6", mode, 0, 0xE6, 1, chips, lent, 127);
-}
-
-// Length octets.
-fn lengths(mode: u32, chips: &mut [u8], lent: &mut [u8]) {
-    header(b"length octet 1, no room", mode, 0, 0xA7, 1, chips, lent, 0);
-    header(b"length octet 0x81", mode, 0, 0xA7, 0x81, chips, lent, 127);
-    header(
-        b"length octet 0x81, no room",
-        mode,
-        0,
-        0xA7,
-        0x81,
-        chips,
-        lent,
-        0,
-    );
-    header(
-        b"length octet 0x80, no room",
-        mode,
-        0,
-        0xA7,
-        0x80,
-        chips,
-        lent,
-        0,
-    );
+// Preambles, start octets and length octets.
+fn headers(mode: u32) {
+    let any = Case::frame(mode, 1);
+    let none = any.with_room(0);
+    header(b"octets of a frame", any, 0, 0xA7, 1);
+    header(b"last symbol of the preamble not 0", any, 0x80, 0xA7, 1);
+    header(b"start octet 0xE5", any, 0, 0xE5, 1);
+    header(b"length octet 1, no room", none, 0, 0xA7, 1);
+    header(b"length octet 0x81", any, 0, 0xA7, 0x81);
+    header(b"length octet 0x81, no room", none, 0, 0xA7, 0x81);
+    header(b"length octet 0x80, no room", none, 0, 0xA7, 0x80);
 }
 
 // Any last preamble octet, start octet and length octet before a report of one octet. All seven are sent as a report and read from
 // there on: a length of 7 brings the chain of mode 0 back to 0, where a frame starts.
-fn header(
-    what: &[u8],
-    mode: u32,
-    preamble: u8,
-    start: u8,
-    length: u8,
-    chips: &mut [u8],
-    lent: &mut [u8],
-    room: usize,
-) {
+fn header(what: &[u8], case: Case, preamble: u8, start: u8, length: u8) {
     let octets = [0u8, 0, 0, preamble, start, length, 0x41];
-    let count = sent(mode, &octets, chips);
-    let from = damage::place(mode, damage::first_of(mode, 6));
-    if chips.len() < from {
-        return;
-    }
-    if count < from {
-        return;
-    }
-    read_line(
-        what,
-        mode,
-        &chips[from..],
-        count - from,
-        &octets[6..],
-        lent,
-        room,
-    );
+    let mut chips = buffer();
+    let from = octet_at(case.read, 6);
+    let to = octet_at(case.read, 13);
+    frame::write(case.written, &octets, &mut chips);
+    read_line(what, case.read, &chips[from..to], &octets[6..], case.room);
 }
 
-// Modes that have no radio. Cut to 8 or 16 bits they would have that of mode 0, or of mode 1.
-fn other_modes(report: &[u8], chips: &mut [u8], lent: &mut [u8]) {
-    let count = sent(0, report, chips);
-    read_line(b"no such mode", 2, chips, count, report, lent, 127);
-    read_line(b"no such mode", 256, chips, count, report, lent, 127);
-    read_line(b"no such mode", 65536, chips, count, report, lent, 127);
-    read_line(b"no such mode", 4294967295, chips, count, report, lent, 127);
-}
-
-fn odd_modes(report: &[u8], chips: &mut [u8], lent: &mut [u8]) {
-    let count = sent(1, report, chips);
-    read_line(b"no such mode", 257, chips, count, report, lent, 127);
-    read_line(b"no such mode", 65537, chips, count, report, lent, 127);
-    read_line(
-        b"no such mode, no chips, no room",
-        2,
-        chips,
-        0,
-        report,
-        lent,
-        0,
-    );
+// Modes that have no radio. Cut to 8 or 16 bits, 256 and 65536 would be mode 0, whose frame is read, and 257 and 65537 mode 1.
+fn no_radio() {
+    let zero = Case::frame(0, 127);
+    let one = Case::frame(1, 127);
+    let none = zero.read_as(2).with_chips(0);
+    line(b"no such mode", zero.read_as(2));
+    line(b"no such mode", zero.read_as(256));
+    line(b"no such mode", zero.read_as(65536));
+    line(b"no such mode", zero.read_as(4294967295));
+    line(b"no such mode", one.read_as(257));
+    line(b"no such mode", one.read_as(65537));
+    line(b"no such mode, no chips, no room", none.with_room(0));
 }

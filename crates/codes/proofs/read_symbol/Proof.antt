@@ -2,7 +2,7 @@
 use mathlib.Core.Path.{sym, _∙_}
 use borrow.Author.Needs.{needs}
 use borrow.Author.Tests.{ltb-false, lt-ltb, le-ltb}
-use Rattle.codes.proofs.Equal.{no-radio, too-few, no-chip, all-chips}
+use Rattle.codes.proofs.Equal.{bad-window, no-radio, too-few, no-chip, all-chips}
 use Rattle.codes.proofs.read_symbol.Statement.{statement}
 use Rattle.codes.proofs.read_symbol.Tie as tie
 
@@ -26,8 +26,8 @@ returns-2 c =
     c .refusal2 .ensures
     ∙ too-few _ _ _ _ (c .before .before .before .before .size-of .ensures) (c .before .before .before .if1 .left) (sym (c .before .before .run-out .ensures) ∙ c .before .if2 .taken)
 
-highest-requires : tie.Need-highest-requires
-highest-requires c κs = ltb-false _ _ (sym (c .before .run-out .ensures) ∙ c .if2 .left)
+bad-in-requires : tie.Need-bad-in-requires
+bad-in-requires c κs = search needs
 
 refusal-requires-3 : tie.Need-refusal-requires-3
 refusal-requires-3 c κs = search needs
@@ -35,9 +35,9 @@ refusal-requires-3 c κs = search needs
 returns-3 : tie.Need-returns-3
 returns-3 c =
     let o = c .before .before .before .before in
+    let f = ltb-false _ _ (sym (o .run-out .ensures) ∙ c .before .before .before .if2 .left) in
     c .refusal3 .ensures
-    ∙ no-chip _ _ _ _ (o .before .before .size-of .ensures) (o .before .if1 .left) (ltb-false _ _ (sym (o .run-out .ensures) ∙ c .before .before .before .if2 .left))
-    (sym (c .before .before .highest .ensures) ∙ lt-ltb _ _ (c .before .if3 .taken))
+    ∙ no-chip _ _ _ _ (o .before .before .size-of .ensures) (o .before .if1 .left) f (sym (c .before .before .bad-in .ensures ∙ bad-window _ _ _ f) ∙ c .before .if3 .taken)
 
 table-requires : tie.Need-table-requires
 table-requires c κs = search needs
@@ -49,8 +49,9 @@ returns-4 : tie.Need-returns-4
 returns-4 c =
     let h = c .before .before .before .before in
     let o = h .before .before in
+    let f = ltb-false _ _ (sym (o .run-out .ensures) ∙ h .before .if2 .left) in
     c .matched .ensures
-    ∙ all-chips _ _ _ _ (o .before .before .size-of .ensures) (o .before .if1 .left) _ (c .before .before .table .ensures) (sym (h .highest .ensures) ∙ le-ltb _ _ (c .before .before .before .if3 .left))
+    ∙ all-chips _ _ _ _ (o .before .before .size-of .ensures) (o .before .if1 .left) _ (c .before .before .table .ensures) (sym (h .bad-in .ensures ∙ bad-window _ _ _ f) ∙ c .before .before .before .if3 .left)
 
 pub read-symbol-spec : {M : Type 1} → statement M
 read-symbol-spec =
@@ -62,7 +63,7 @@ read-symbol-spec =
     run-out-requires
     refusal-requires-2
     returns-2
-    highest-requires
+    bad-in-requires
     refusal-requires-3
     returns-3
     table-requires

@@ -1,6 +1,7 @@
 -- `follow` meets its contract: a law for each of its ways (Steps.antt). Assumes nothing.
-use mathlib.Core.Path.{sym, ap, _∙_}
-use Rattle.reader.proofs.Steps.{per-sized, per-sizeless, per-few, raw-few, follow-no-radio, follow-refused, follow-on}
+use mathlib.Core.Path.{_∙_}
+use Rattle.frame.proofs.Modes.{per-sized, per-sizeless, per-few}
+use Rattle.reader.proofs.Steps.{raw-few, follow-no-radio, follow-refused, follow-on}
 use borrow.Author.Needs.{needs}
 use Rattle.reader.proofs.follow.Statement.{statement}
 use Rattle.reader.proofs.follow.Tie as tie

@@ -1,5 +1,5 @@
 -- `rule` meets its contract: a law for each of its ways (Rules.antt). Assumes nothing.
-use Prim.Native.Nat.{ℕ, suc, _+_, _*_, _≤_}
+use Prim.Native.Nat.{ℕ, suc, _+_, _*_}
 use mathlib.Core.Path.{_≡_, refl, sym, ap}
 use mathlib.Core.Bool.{false, not}
 use native.Mathlib.Nat.{mul-le-mul-right}
@@ -9,7 +9,7 @@ use Rattle.frame.specs.Frame.{startOctet}
 use Rattle.reader.specs.Order.{both, ends}
 use mathlib.Core.Logic.{⊎-elim}
 use native.Mathlib.Omega.{arith}
-use borrow.Author.Tests.{lt-ltb, le-ltb, eq-eqb, ne-eqb}
+use borrow.Author.Tests.{lt-ltb, le-ltb}
 use Rattle.reader.proofs.Rules.{neither, ends-is, ends-not, rules-7, rules-8, rules-9, rules-done, rules-more}
 use borrow.Author.Needs.{needs}
 use Rattle.reader.proofs.rule.Statement.{statement}

@@ -1,7 +1,7 @@
 -- `scan` meets its contract: what is still to be read stays the reading's answer (Scanning.antt). Assumes nothing.
-use Prim.Native.Nat.{_+_, _-_, _≤_, _<_}
+use Prim.Native.Nat.{_+_, _-_, _≤_}
 use mathlib.Core.Path.{_≡_, refl, sym, ap, _∙_}
-use mathlib.Core.Bool.{true, false}
+use mathlib.Core.Bool.{false}
 use mathlib.Core.Logic.{⊎-elim}
 use native.Mathlib.Omega.{arith}
 use lib.ListN.{length, take, drop}
@@ -11,7 +11,6 @@ use Rattle.codes.specs.Radio.{radioOf}
 use Rattle.reader.specs.Taking.{stopped}
 use Rattle.reader.proofs.Scanning.{Scanning, Ways}
 use Rattle.reader.proofs.Scans.{bad-byte, good-byte, size-positive, starts, runs-out, stops-bad, all-chips, turns}
-use borrow.Author.Needs.{needs}
 use Rattle.reader.proofs.scan.Statement.{statement}
 use Rattle.reader.proofs.scan.Tie as tie
 use Rattle.reader.proofs.scan.Reads as reads

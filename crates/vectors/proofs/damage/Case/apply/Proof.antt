@@ -1,25 +1,28 @@
--- `invert` is safe and ends: it keeps the length. Assumes nothing.
+-- `apply` is safe and ends: it keeps the length. Assumes nothing.
 use mathlib.Core.Path.{_≡_}
 use Prim.Native.Nat.{_-_, _≤_}
 use lib.ListN.{length}
 use borrow.Author.Needs.{needs}
-use Rattle.vectors.proofs.damage.invert.Statement.{statement}
-use Rattle.vectors.proofs.damage.invert.Tie as tie
+use Rattle.vectors.proofs.damage.Case.apply.Statement.{statement}
+use Rattle.vectors.proofs.damage.Case.apply.Tie as tie
 
 abbrev Inv-loop : tie.InvT-loop
-Inv-loop chips₀ i₀ chips i = (length chips ≡ length chips₀) × (i ≤ length chips₀)
+Inv-loop self chips₀ at i₀ chips i = (length chips ≡ length chips₀) × (at ≤ i)
 
 abbrev μ-loop : tie.MeasureT-loop
-μ-loop chips₀ i₀ chips i = length chips₀ - i
+μ-loop self chips₀ at i₀ chips i = length chips₀ - i
 
 loop-holds : tie.Need-loop-holds Inv-loop μ-loop
 loop-holds c = search needs
 
-slice-read-inverse : tie.Need-slice-read-inverse Inv-loop μ-loop
-slice-read-inverse c = search needs
+sub-changed : tie.Need-sub-changed Inv-loop μ-loop
+sub-changed c = search needs
 
-inverse-requires : tie.Need-inverse-requires Inv-loop μ-loop
-inverse-requires c κs = search needs
+slice-read-changed : tie.Need-slice-read-changed Inv-loop μ-loop
+slice-read-changed c = search needs
+
+changed-requires : tie.Need-changed-requires Inv-loop μ-loop
+changed-requires c κs = search needs
 
 slice-write-chips : tie.Need-slice-write-chips Inv-loop μ-loop
 slice-write-chips c = search needs
@@ -39,15 +42,16 @@ same-length c = search needs
 returns : tie.Need-returns Inv-loop μ-loop
 returns c = search needs
 
-pub invert-spec : {M : Type 1} → statement M
-invert-spec =
+pub apply-spec : {M : Type 1} → statement M
+apply-spec =
     tie.close
     (tie.spec
     Inv-loop
     μ-loop
     loop-holds
-    slice-read-inverse
-    inverse-requires
+    sub-changed
+    slice-read-changed
+    changed-requires
     slice-write-chips
     add-i
     loop-less

@@ -1,9 +1,16 @@
 -- Lists of numbers that are all below a bound. Assumes nothing.
-use mathlib.Core.List.{List, [], _∷_}
+use mathlib.Core.List.{List, [], _∷_, _++_}
 use Prim.Native.Nat.{ℕ, zero, suc, _<_}
 use native.Mathlib.Omega.{arith}
 use lib.ListN.{length, getD, take, drop}
-use Rattle.frame.proofs.Count.{Below}
+
+abbrev pub Below : ℕ → List ℕ → Type 0
+Below w [] = Unit {0}
+Below w (v ∷ vs) = (v < w) × Below w vs
+
+pub below-append : (w : ℕ) (xs ys : List ℕ) → Below w xs → Below w ys → Below w (xs ++ ys)
+below-append w [] ys p q = q
+below-append w (x ∷ xs) ys p q = (p .0, below-append w xs ys (p .1) q)
 
 -- each number is below it
 pub below-at : (w : ℕ) (xs : List ℕ) → Below w xs → (i : ℕ) → i < length xs → getD xs i 0 < w
