@@ -118,7 +118,8 @@ pub fn bad_symbol(mode: u32, chips: &[u8], at: usize) -> bool
     false
 }
 
-// Called with constants, as `match_in` is.
+// Whether the whole symbol of so many chips that begins at a place has a byte that is no chip; false where fewer are left.
+// `bad_symbol` calls it with constants, as `matched` calls `match_in`.
 fn bad_in(size: usize, chips: &[u8], at: usize) -> bool
     ensures { λ r. ⌜ r ≡ badIn size (now (chips .entry)) at ⌝ }
 {
@@ -147,7 +148,7 @@ fn match_in(
     judge(limit, nearest_word(size, count, words, chips, at))
 }
 
-// Looks at every word: nothing leaves the loops, and the sum of a byte's width is what makes the chip loop fast.
+// Looks at every word: nothing leaves the loops, and a sum of a byte's width is what the back end turns into vector sums.
 fn nearest_word(size: usize, count: u32, words: &[u8; 512], chips: &[u8], at: usize) -> Nearest
     requires { ⌜ (count * size ≤ 512) × (size ≤ 512) × (count ≤ 512) × (at + size ≤ length (now chips)) ⌝ }
     ensures { λ r. ⌜ r ≡ nearestOf (sumTo (now (words .entry)) (now (chips .entry)) at size) count ⌝ }

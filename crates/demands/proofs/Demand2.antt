@@ -48,7 +48,7 @@ unfolding written
 written-frame mode k report chips l h =
     rw (k, le-ltb 127 (length report) l, le-ltb (length chips) (length (frame (radioOf mode) report)) h)
 
--- What the writer wrote, the reader reads.
+-- With room for both, what the writer wrote the reader reads.
 pub read-back : (mode : ℕ) → known mode ≡ true → (report chips buffer : List ℕ) → Report report → length (frame (radioOf mode) report) ≤ length chips
     → length report ≤ length buffer
     → readOf mode (written mode report chips .buffer) buffer ≡ success mode buffer report 0

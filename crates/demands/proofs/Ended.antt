@@ -14,11 +14,10 @@ use Rattle.codes.specs.Symbol.{symbolOf}
 use Rattle.codes.proofs.Tests.{upto}
 use Rattle.codes.proofs.Unique.{Reads, of-symbol}
 use Rattle.frame.specs.Frame.{perOctet, encode, symbols}
-use Rattle.frame.proofs.Below.{Below}
+use Rattle.frame.proofs.Below.{Below, at-below}
 use Rattle.reader.specs.Received.{decode, octetAt}
 use Rattle.reader.specs.Order.{done, values, repaired, verdict, reportIn, readingFrom}
 use Rattle.demands.specs.Words.{Report}
-use Rattle.frame.proofs.Below.{at-below}
 use Rattle.demands.proofs.Back.{decode-take, encode-decode}
 use Rattle.reader.proofs.Raw.{decode-long, decode-below}
 use Rattle.reader.proofs.Rules.{Clear, rules-clear, rules-last}

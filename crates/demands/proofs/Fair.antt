@@ -8,11 +8,10 @@ use lib.Dec.{eqb, ltb}
 use borrow.Author.Tests.{eqb-false}
 use Rattle.codes.specs.declared.Symbol.{Symbol}
 use Rattle.codes.specs.Numbers.{DONE, NOROOM, RUNOUT, NOCHIP, LOST, PREAMBLE, BADSTART, RESERVED, MORE}
-use Rattle.codes.specs.Chips.{pick, bad}
+use Rattle.codes.specs.Chips.{pick, bad, among}
 use Rattle.codes.specs.Radio.{Radio}
 use Rattle.codes.specs.Symbol.{valued, symbolOf}
 use Rattle.codes.proofs.Tests.{not-both}
-use Rattle.codes.specs.Chips.{among}
 use Rattle.frame.specs.Frame.{startOctet}
 use Rattle.reader.specs.Order.{Answer, refused, done, both, ends, rules, values, verdict, concluded, taking, readingFrom, reading, whole}
 use Rattle.reader.specs.Received.{received}

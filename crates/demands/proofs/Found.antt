@@ -10,11 +10,10 @@ use lib.Seq.{getD-take, getD-drop}
 use Rattle.codes.specs.Radio.{Radio, Sound}
 use Rattle.codes.proofs.Rows.{row-in}
 use Rattle.frame.specs.Frame.{startOctet, octets, perOctet, raws}
-use Rattle.frame.proofs.Below.{Below}
+use Rattle.frame.proofs.Below.{Below, at-below, below-at}
 use Rattle.reader.specs.Received.{octetAt, octetsFrom}
 use Rattle.reader.specs.Order.{reportIn}
 use Rattle.demands.specs.Words.{Report}
-use Rattle.frame.proofs.Below.{at-below, below-at}
 use Rattle.demands.proofs.Digits.{value-nought}
 use Rattle.demands.proofs.Octet.{raws-octets, octets-below, octet-take}
 use Rattle.reader.proofs.Raw.{octets-long, per-positive}

@@ -12,12 +12,11 @@ use Rattle.codes.specs.Numbers.{DONE, MORE}
 use Rattle.codes.specs.Radio.{Radio, Sound}
 use Rattle.frame.specs.Frame.{startOctet, octets, perOctet, rawOf, raws}
 use Rattle.frame.proofs.Count.{raws-long}
-use Rattle.frame.proofs.Below.{Below, below-append}
+use Rattle.frame.proofs.Below.{Below, below-append, at-below, below-at}
 use Rattle.frame.proofs.Parts.{before}
 use Rattle.reader.specs.Received.{octetAt, octetsFrom}
 use Rattle.reader.specs.Order.{verdict, reportIn}
 use Rattle.demands.specs.Words.{Report}
-use Rattle.frame.proofs.Below.{at-below, below-at}
 use Rattle.demands.proofs.Digits.{digits-nought}
 use Rattle.demands.proofs.Octet.{octets-raws, octet-take}
 use Rattle.reader.proofs.Rules.{Clear, clear-rules}

@@ -13,10 +13,9 @@ use Rattle.codes.specs.Radio.{Radio, Sound, word}
 use Rattle.codes.proofs.Chips.{bad-append}
 use Rattle.frame.specs.Frame.{symbols, chipsOf, frame}
 use Rattle.frame.proofs.Count.{symbols-below, frame-size}
-use Rattle.frame.proofs.Below.{Below}
+use Rattle.frame.proofs.Below.{Below, below-at}
 use Rattle.reader.specs.Order.{window}
 use Rattle.demands.specs.Words.{Near, differences}
-use Rattle.frame.proofs.Below.{below-at}
 use Rattle.demands.proofs.Fronts.{window-same, front-distance, word-window}
 
 module _ (r : Radio) (S : Sound r) where

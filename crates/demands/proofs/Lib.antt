@@ -1,5 +1,5 @@
--- The demands, and the laws that they stand on, leaves first. For a reader are Demand3 with PutRight, NoFlat, OneAnswer and Reader, which
--- follow from it, Demand2 and Demand1; each opens with what it says in plain words.
+-- The demands, and the laws that they stand on, leaves first. To be read are Demand1, Demand2, Demand3 and, from it, PutRight, NoFlat,
+-- OneAnswer and Reader; each opens with what it says in plain words.
 pub mod Digits
 pub mod Back
 pub mod Octet

@@ -10,10 +10,9 @@ use lib.Seq.{take-nil, take-at, drop-at, drop-drop, length-take-le, take-take}
 use Rattle.codes.specs.Radio.{Radio, Sound}
 use Rattle.frame.specs.Frame.{perOctet, rawOf, raws}
 use Rattle.frame.proofs.Count.{digits-long}
-use Rattle.frame.proofs.Below.{Below}
+use Rattle.frame.proofs.Below.{Below, below-take, below-drop}
 use Rattle.reader.specs.Received.{valueOf, octetAt, octetsFrom}
 use Rattle.reader.proofs.Raw.{octet-values}
-use Rattle.frame.proofs.Below.{below-take, below-drop}
 use Rattle.demands.proofs.Digits.{value-digits, digits-value, value-below}
 
 -- the front of a part is a part of the front

@@ -1,5 +1,5 @@
--- The words that the demands are stated with: a report, what it is that the reading answers it, chips that are a report's frame but for
--- a few in each symbol, and the reader's outcome that says a report.
+-- The words that the demands are stated with: a report; that the reading answers a report and a count; chips that are a report's frame
+-- but for a few in each symbol; the sum of differences; and the reader's outcome that tells a report.
 use mathlib.Core.Path.{_≡_}
 use mathlib.Core.Bool.{false}
 use mathlib.Core.List.{List, _++_}

@@ -16,8 +16,7 @@ use Rattle.codes.proofs.Chips.{distance-le}
 use Rattle.codes.proofs.Tests.{by-test}
 use Rattle.frame.specs.Frame.{perOctet}
 use Rattle.frame.proofs.Count.{sent-below}
-use Rattle.frame.proofs.Below.{Below}
-use Rattle.frame.proofs.Below.{below-take, below-drop}
+use Rattle.frame.proofs.Below.{Below, below-take, below-drop}
 use Rattle.reader.specs.Received.{rawAfter, decode, valueOf, octetAt, octetsFrom}
 use Rattle.reader.specs.Taking.{shifted}
 
@@ -81,7 +80,7 @@ pow-pow b (suc k) =
     pow-suc (2 ^ b) k ∙ ap (λ (x : ℕ). x * 2 ^ b) (pow-pow b k) ∙ sym (pow-add 2 (k * b) b) ∙ ap (λ (x : ℕ). 2 ^ x) (sym (suc-mul k b))
 
 module _ (r : Radio) (S : Sound r) where
-  -- an octet's symbols make 256 octets
+  -- the symbols of an octet have 256 values together
   pub octet-values : (2 ^ r .bits) ^ perOctet r ≡ 256
   octet-values = pow-pow (r .bits) (perOctet r) ∙ ap (λ (x : ℕ). 2 ^ x) (S .divides)
 

@@ -1,4 +1,4 @@
--- What a reader must believe of reading: raw symbols and octets of the values read, the reading order, the reader's answer. `Taking`
+-- What has to be believed of reading: raw symbols and octets of the values read, the reading order, the reader's answer. `Taking`
 -- is not among it: it is what the code carries from symbol to symbol, shown equal.
 pub mod Received
 pub mod Order

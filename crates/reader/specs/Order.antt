@@ -1,4 +1,4 @@
--- The reading order (document 01, "Reading order"), for any radio. Whatever it needs at a symbol it reads off the symbols before
+-- The reading order (document 01, "Reading order"), for any radio. Whatever it needs at a symbol it reads off the symbols up to
 -- it, so it has no state. Rule 1 is the first line of `readingFrom`, rules 2 and 3 are `symbolOf`, rules 4 to 6 `rules`; `taking`
 -- puts them in order.
 use Prim.Native.Nat.{ℕ, zero, suc, _+_, _*_, _/_}

@@ -48,9 +48,9 @@ pub fn read(mode: u32, chips: &[u8], report: &mut [u8]) -> Reading
     answer
 }
 
-// The reading order over the buffer. The test of a symbol's bytes has no exit, so that it can look at many at a time; only where it
-// finds one that is no chip does the loop over chips run, which then always leaves. A refusal leaves the loops with the hand's
-// number and place; the octet kept before the last test is the frame's last where that is done.
+// The reading order over the buffer. The test of a symbol's bytes has no exit, so that nothing keeps the back end from looking at many
+// at a time; only where it finds one that is no chip does the loop over chips run, which then always leaves. A refusal leaves the
+// loops with the hand's number and place. `keep` stands before the last test, so that the frame's last octet is kept too.
 fn scan(mode: u32, chips: &[u8], room: usize, octets: &mut [u8; 127]) -> Hand
     requires { ⌜ (known mode ≡ true) × (length (now octets) ≡ 127) ⌝ }
     ensures { λ r. ⌜ Scanned (radioOf mode) room (now (chips .entry)) (now (octets .exit)) r ⌝ }
@@ -214,7 +214,7 @@ fn with_room(room: usize, hand: Hand, next: Hand) -> Hand
 }
 
 // Keeps the octet in hand where it is whole and one of the report's; after a refusal, which took no symbol, none. The hand may hold
-// anything: hence the tests that no reading fails.
+// anything: hence the tests of the mode and of k, which no reading fails, and the octet reduced.
 pub fn keep(mode: u32, hand: Hand, octets: &mut [u8; 127])
     ensures { λ _. ⌜ now (octets .exit) ≡ keptAt mode hand (now (octets .entry)) ⌝ }
 {
