@@ -24,8 +24,10 @@ left (done place report count) buffer = report ++ drop (length report) buffer
 unfoldable pub answerAt : ℕ → ℕ → List ℕ → Answer
 answerAt mode room chips = pick (known mode) (reading (radioOf mode) room chips) (refused BADMODE 0)
 
+-- what an answer comes to: what is given back, and the report buffer at exit
 abbrev pub answered : Answer → List ℕ → Outcome Reading
 answered a buffer = outcome (told a) (left a buffer)
 
+-- the reader, whose room is the report buffer's length
 abbrev pub readOf : ℕ → List ℕ → List ℕ → Outcome Reading
 readOf mode chips buffer = answered (answerAt mode (length buffer) chips) buffer
