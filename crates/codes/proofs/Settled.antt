@@ -9,6 +9,8 @@ use denote.Triple.Clauses.{AtExit}
 use borrow.Fn.Kinds.{PK, RK, Out, Dens, resT, endedOf}
 use Rattle.codes.proofs.size_of.Kinds as size-of-kinds
 use Rattle.codes.proofs.size_of.Reads as size-of-promise
+use Rattle.codes.proofs.limit_of.Kinds as limit-of-kinds
+use Rattle.codes.proofs.limit_of.Reads as limit-of-promise
 use Rattle.codes.proofs.tables.table.Kinds as table-kinds
 use Rattle.codes.proofs.tables.table.Reads as table-promise
 use Rattle.codes.proofs.bad_symbol.Kinds as bad-symbol-kinds
@@ -27,6 +29,9 @@ Settles n ps r Post = (κs : Lfts n) (a : Dens κs ps) (p q : resT r κs .Denot)
 
 pub size-of-settled : Settles 0 size-of-kinds.ps size-of-kinds.r size-of-promise.Post
 size-of-settled κs a p q s t = settled p q
+
+pub limit-of-settled : Settles 0 limit-of-kinds.ps limit-of-kinds.r limit-of-promise.Post
+limit-of-settled κs a p q s t = settled p q
 
 pub table-settled : Settles 0 table-kinds.ps table-kinds.r table-promise.Post
 table-settled κs a p q s t = settled p q

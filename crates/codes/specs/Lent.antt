@@ -1,5 +1,5 @@
--- What is given to whoever reads or writes many symbols: the size of a symbol, the words in one table to lend, and a test of a
--- symbol's bytes.
+-- What is given to whoever reads or writes many symbols: the size of a symbol, the accepted distance, the words in one
+-- table to lend, and a test of a symbol's bytes.
 use Prim.Native.Nat.{ℕ, _+_, _-_}
 use mathlib.Core.Bool.{Bool, false}
 use mathlib.Core.List.{List, [], _∷_, _++_}
@@ -11,6 +11,10 @@ use Rattle.codes.specs.Radio.{Radio, known, radioOf}
 -- chips in a symbol of a mode's radio; 0 where it has none
 abbrev pub sizeAt : ℕ → ℕ
 sizeAt mode = pick (known mode) (radioOf mode .size) 0
+
+-- the accepted distance of a mode's radio; 0 where it has none
+abbrev pub limitAt : ℕ → ℕ
+limitAt mode = pick (known mode) (radioOf mode .limit) 0
 
 -- words one after the other
 unfoldable pub joined : List (List ℕ) → List ℕ

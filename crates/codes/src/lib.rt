@@ -8,7 +8,7 @@ ghost use lib.ListN.{length, take, drop};
 ghost use lib.Dec.{ltb};
 ghost use Rattle.codes.specs.Chips.{bad};
 ghost use Rattle.codes.specs.Symbol.{refused, symbolAt};
-ghost use Rattle.codes.specs.Lent.{sizeAt, badIn, badAt};
+ghost use Rattle.codes.specs.Lent.{sizeAt, limitAt, badIn, badAt};
 ghost use Rattle.codes.specs.Matching.{sumTo, nearestOf, judged, matchIn, matchedAt};
 
 mod tables;
@@ -68,6 +68,19 @@ pub fn size_of(mode: u32) -> usize
     }
     if mode == 1 {
         return 32;
+    }
+    0
+}
+
+// The accepted distance of the mode's radio; 0 for a mode that has no radio.
+pub fn limit_of(mode: u32) -> u32
+    ensures { λ r. ⌜ r ≡ limitAt mode ⌝ }
+{
+    if mode == 0 {
+        return 6;
+    }
+    if mode == 1 {
+        return 5;
     }
     0
 }

@@ -20,15 +20,16 @@ use Rattle.demands.proofs.Fair.{by-pick, refusals, Fair, answer-fair}
 
 -- ---- the reader
 
+-- an answer that isn't done: n and count 0, report buffer unchanged
+pub leaves : (a : Answer) (buffer : List ℕ) → (told a .number ≡ DONE → ⊥) → (told a .n ≡ 0) × (told a .count ≡ 0) × (left a buffer ≡ buffer)
+unfolding told left
+leaves (refused x place) buffer n = (refl, refl, refl)
+leaves (done place report count) buffer n = absurd (n refl)
+
 -- A refused reading: n and count 0, report buffer unchanged.
 pub read-refused : (mode : ℕ) (chips buffer : List ℕ) → (readOf mode chips buffer .answer .number ≡ DONE → ⊥)
     → (readOf mode chips buffer .answer .n ≡ 0) × (readOf mode chips buffer .answer .count ≡ 0) × (readOf mode chips buffer .buffer ≡ buffer)
-unfolding told left
-read-refused mode chips buffer = go (answerAt mode (length buffer) chips)
-  where
-    go : (a : Answer) → (told a .number ≡ DONE → ⊥) → (told a .n ≡ 0) × (told a .count ≡ 0) × (left a buffer ≡ buffer)
-    go (refused x place) n = (refl, refl, refl)
-    go (done place report count) n = absurd (n refl)
+read-refused mode chips buffer = leaves (answerAt mode (length buffer) chips) buffer
 
 -- one number more to be among
 among-more : (x y : ℕ) (ns : List ℕ) → among x ns ≡ true → among x (y ∷ ns) ≡ true

@@ -16,7 +16,6 @@ use Rattle.codes.specs.Symbol.{symbolOf}
 use Rattle.codes.proofs.Tests.{by-test}
 use Rattle.reader.specs.Received.{received}
 use Rattle.reader.proofs.Windows.{seen, seen-front, seen-next, rest, rest-more, rest-out}
-use Rattle.reader.specs.Taking.{reportOf}
 use Rattle.reader.specs.Order.{Answer, refused, done, values, repaired, verdict, reportIn, concluded, taking}
 
 -- the raw symbols of the first k windows
@@ -44,13 +43,17 @@ placeOf : Answer → ℕ
 placeOf (refused x s) = s
 placeOf (done s report count) = s
 
+reportOf : Answer → List ℕ
+reportOf (refused x s) = []
+reportOf (done s report count) = report
+
 countOf : Answer → ℕ
 countOf (refused x s) = 0
 countOf (done s report count) = count
 
 -- answers that are done and equal have equal parts
 pub same-parts : (p q c d : ℕ) (xs ys : List ℕ) → done p xs c ≡ done q ys d → (p ≡ q) × (xs ≡ ys) × (c ≡ d)
-unfolding placeOf countOf
+unfolding placeOf reportOf countOf
 same-parts p q c d xs ys e = (ap placeOf e, ap reportOf e, ap countOf e)
 
 module _ (r : Radio) (room : ℕ) (ws : List (List ℕ)) where

@@ -6,6 +6,7 @@ pub mod Windows
 pub mod Carried
 pub mod Turns
 pub mod Gathered
+pub mod Sofar
 pub mod Scanning
 pub mod Scans
 pub mod Told

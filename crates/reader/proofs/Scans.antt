@@ -1,14 +1,16 @@
--- The laws of the reader's loop at a mode, over what the functions that it calls promise. Assumes nothing.
-use mathlib.Core.Path.{_≡_, sym, ap, _∙_}
+-- One symbol more at a mode, for the stepping receiver, and the laws of the reader's loop at a mode, over what the functions that it
+-- calls promise. Assumes nothing.
+use mathlib.Core.Path.{_≡_, refl, sym, ap, _∙_}
 use mathlib.Core.Bool.{true, false}
-use mathlib.Core.List.{List}
-use Prim.Native.Nat.{ℕ, _+_, _-_, _≤_, _<_}
+use mathlib.Core.List.{List, []}
+use Prim.Native.Nat.{ℕ, suc, _+_, _-_, _≤_, _<_}
 use native.Mathlib.Omega.{arith}
 use lib.ListN.{length, getD, take, drop, length-drop}
 use lib.Seq.{getD-take, getD-drop}
 use borrow.Author.Tests.{le-ltb}
-use Rattle.codes.specs.Numbers.{NOCHIP}
-use Rattle.codes.specs.Chips.{bad}
+use lib.Dec.{eqb}
+use Rattle.codes.specs.Numbers.{DONE, NOCHIP}
+use Rattle.codes.specs.Chips.{pick, bad}
 use Rattle.codes.specs.Radio.{known, radioOf}
 use Rattle.codes.specs.Symbol.{symbolOf, symbolAt}
 use Rattle.codes.specs.Lent.{sizeAt, tableAt, badAt}
@@ -20,12 +22,37 @@ use Rattle.codes.proofs.Chips.{chip-at, no-higher}
 use Rattle.codes.proofs.Facts.{sound}
 use Rattle.codes.proofs.Equal.{matched-symbol, bad-window}
 use Rattle.reader.specs.declared.Hand.{Hand}
-use Rattle.reader.specs.Taking.{begun, stopped, followed, roomed, keptAt, Scanned}
+use Rattle.reader.specs.Order.{reading}
+use Rattle.reader.specs.Taking.{begun, stopped, advanced, followed, roomed, keptAt, Tells}
 use Rattle.reader.proofs.Raw.{size-pos}
-use Rattle.reader.proofs.Scanning.{Scanning, Ways, scan-starts, scan-out, scan-bad, turned-scan}
+use Rattle.reader.proofs.Carried.{Carries}
+use Rattle.reader.proofs.Turns.{Open, Turned, turned, room-for-any}
+use Rattle.reader.proofs.Sofar.{Sofar, Ways, symbol-taken}
+use Rattle.reader.proofs.Scanning.{Scanning, Turning, scan-starts, scan-out, scan-bad, turned-scan}
 
 low : (mode : ℕ) → radioOf mode .limit ≤ 255
 low = each-row (λ r. r .limit ≤ 255) (omega arith) (omega arith)
+
+-- `followed` is what the test of room, with room for every report, leaves as it is
+followed-is : (mode : ℕ) → known mode ≡ true → (h : Hand) (x : Symbol) → h .length ≤ 127
+    → followed mode h x ≡ roomed 127 h (pick (eqb (x .number) DONE) (advanced (radioOf mode) h (x .value) (x .distance)) (stopped (x .number) h))
+unfolding followed
+followed-is mode m h x l = rw m (sym (room-for-any (radioOf mode) h x l))
+
+-- a hand that carries the symbols before and wants more, and the symbol of any window
+pub followed-turned : (mode : ℕ) → known mode ≡ true → (before : List Symbol) (h : Hand) → Carries (radioOf mode) before h → Open (radioOf mode) 127 h → (w : List ℕ)
+    → Turned (radioOf mode) 127 before (symbolOf (radioOf mode) w) (followed mode h (symbolOf (radioOf mode) w))
+followed-turned mode m before h C O w =
+    let x = symbolOf (radioOf mode) w in
+    turned (radioOf mode) (sound mode) (low mode) 127 before h C O w x refl (followed mode h x) (followed-is mode m h x (O .few))
+
+-- one symbol more of a list of windows
+pub symbol-followed : (mode : ℕ) → known mode ≡ true → (ws : List (List ℕ)) (octets : List ℕ) (h : Hand) → Sofar (radioOf mode) 127 ws octets h → h .taken < length ws
+    → (g : Hand) → g ≡ followed mode h (symbolOf (radioOf mode) (getD ws (h .taken) [])) → Ways (radioOf mode) 127 ws (keptAt mode g octets) (suc (h .taken)) g
+unfolding keptAt
+symbol-followed mode m ws octets h L next g e =
+    let x = symbolOf (radioOf mode) (getD ws (h .taken) []) in
+    symbol-taken (radioOf mode) (sound mode) 127 ws octets h L next (low mode) x refl g (e ∙ followed-is mode m h x (L .goes .few)) (keptAt mode g octets) (rw m)
 
 -- a byte above 1 in a window
 pub bad-byte : (chips : List ℕ) (at size k : ℕ) → k < size → 1 < getD chips (at + k) 0 → bad (take size (drop at chips)) ≡ true
@@ -50,14 +77,14 @@ module _ (mode : ℕ) (m : known mode ≡ true) (room : ℕ) (chips : List ℕ) 
     is : size ≡ radioOf mode .size
     is = e ∙ size-known mode m
 
-    pub runs-out : length chips - at < size → Scanned (radioOf mode) room chips octets h
+    pub runs-out : length chips - at < size → Tells (radioOf mode) room (reading (radioOf mode) room chips) octets h
     runs-out l = scan-out (radioOf mode) (sound mode) room chips octets h at L (rw is at l)
 
     module _ (l : size ≤ length chips - at) where
       whole : at + radioOf mode .size ≤ length chips
       whole = let w : at + size ≤ length chips = omega (arith, L .upto) in rw is at w
 
-      pub stops-bad : bad (take size (drop at chips)) ≡ true → (g : Hand) → g ≡ stopped NOCHIP h → Scanned (radioOf mode) room chips octets g
+      pub stops-bad : bad (take size (drop at chips)) ≡ true → (g : Hand) → g ≡ stopped NOCHIP h → Tells (radioOf mode) room (reading (radioOf mode) room chips) octets g
       stops-bad b g q = rw q (scan-bad (radioOf mode) (sound mode) room chips octets h at L (rw is at l) (rw is at b))
 
       -- what the test of the bytes says
@@ -71,7 +98,7 @@ module _ (mode : ℕ) (m : known mode ≡ true) (room : ℕ) (chips : List ℕ) 
         unfolding symbolAt
         symbol-is = ex ∙ matched-symbol mode words chips at t (rw is at b) ∙ rw (m, le-ltb (length chips) (at + radioOf mode .size) whole)
 
-        pub turns : Ways (radioOf mode) room chips kept g (at + size)
+        pub turns : Turning (radioOf mode) room chips kept g (at + size)
         unfolding followed keptAt
         turns =
             let way = turned-scan (radioOf mode) (sound mode) room chips octets h at L (rw is at l) (low mode) x symbol-is g (eg ∙ ap (roomed room h) (ef ∙ rw m)) kept (ek ∙ rw m) in

@@ -1,5 +1,5 @@
--- The promises settle what they speak of: two outcomes that satisfy one are equal. Those of `read` and `keep` settle every byte of the
--- lent buffer at exit; each speaks of the function's own contract, as `Settles` does. Assumes nothing.
+-- The promises settle what they speak of: two outcomes that satisfy one are equal. Those of `read`, `keep` and `store` settle every byte
+-- of the lent buffer at exit; each speaks of the function's own contract, as `Settles` does. Assumes nothing.
 use mathlib.Core.Path.{_≡_}
 use contract.Lifetimes.{Lfts}
 use denote.Ref.{now}
@@ -13,6 +13,10 @@ use Rattle.reader.proofs.follow.Kinds as follow-kinds
 use Rattle.reader.proofs.follow.Reads as follow-promise
 use Rattle.reader.proofs.keep.Kinds as keep-kinds
 use Rattle.reader.proofs.keep.Reads as keep-promise
+use Rattle.reader.proofs.store.Kinds as store-kinds
+use Rattle.reader.proofs.store.Reads as store-promise
+use Rattle.reader.proofs.refusal.Kinds as refusal-kinds
+use Rattle.reader.proofs.refusal.Reads as refusal-promise
 
 -- `s .1 .1 .0` is the third parameter, the report buffer, at exit
 pub read-settled : (κs : Lfts 2) (a : Dens κs read-kinds.ps) (p q : resT read-kinds.r κs .Denot) (s t : AtExit (endedOf 2 read-kinds.ps read-kinds.r) κs)
@@ -26,3 +30,11 @@ follow-settled κs a p q s t = settled p q
 pub keep-settled : (κs : Lfts 1) (a : Dens κs keep-kinds.ps) (p q : resT keep-kinds.r κs .Denot) (s t : AtExit (endedOf 1 keep-kinds.ps keep-kinds.r) κs)
     → keep-promise.Post κs a p s → keep-promise.Post κs a q t → now (s .1 .1 .0) ≡ now (t .1 .1 .0)
 keep-settled κs a p q s t = settled _ _
+
+-- the third parameter, the report buffer, at exit
+pub store-settled : (κs : Lfts 1) (a : Dens κs store-kinds.ps) (p q : resT store-kinds.r κs .Denot) (s t : AtExit (endedOf 1 store-kinds.ps store-kinds.r) κs)
+    → store-promise.Post κs a p s → store-promise.Post κs a q t → now (s .1 .1 .0) ≡ now (t .1 .1 .0)
+store-settled κs a p q s t = settled _ _
+
+pub refusal-settled : Settles 0 refusal-kinds.ps refusal-kinds.r refusal-promise.Post
+refusal-settled κs a p q s t = settled p q

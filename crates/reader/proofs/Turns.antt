@@ -1,4 +1,4 @@
--- One turn of the reader's loop over plain values: a hand that carries the symbols before, and a symbol, give a hand that carries
+-- One symbol taken, a turn of the reader's loop or a push, over plain values: a hand that carries the symbols before, and a symbol, give a hand that carries
 -- one more, or the reading's answer. Assumes nothing.
 use mathlib.Core.Path.{_≡_, refl, sym, ap, _∙_, subst}
 use mathlib.Core.List.{List, [], _∷_, _++_}
@@ -21,7 +21,7 @@ use Rattle.reader.specs.declared.Hand.{Hand}
 use Rattle.reader.specs.Received.{received}
 use Rattle.reader.specs.Order.{Answer, done, ends, rules, values, repaired, verdict, reportIn, concluded, taking}
 use Rattle.reader.specs.Order as order
-use Rattle.reader.specs.Taking.{begun, stopped, rawFrom, shifted, lengthAfter, moved, onward, advanced, roomed}
+use Rattle.reader.specs.Taking.{begun, stopped, rawFrom, shifted, lengthAfter, moved, onward, advanced, roomed, Complete}
 use Rattle.reader.proofs.Raw.{per-positive}
 use Rattle.reader.proofs.Rules.{Clear, rules-clear, rules-last, rules-before, rules-room}
 use Rattle.reader.proofs.Steps.{goes, stops}
@@ -57,9 +57,7 @@ module _ (r : Radio) (room : ℕ) (before : List Symbol) (x : Symbol) (g : Hand)
   pub record Over : Type 0 where
     pub number : g .number ≡ DONE
     pub carries : Carries r (before ++ x ∷ []) g
-    pub total : g .taken ≡ (6 + g .length) * perOctet r
-    pub fits : g .length ≤ room
-    pub few : g .length ≤ 127
+    pub all : Complete r room g
     pub same : (next : Answer) → taking r room before x next ≡ done (suc (length before)) (reportIn r (received r (values (before ++ x ∷ [])))) (repaired (before ++ x ∷ []))
 
   -- refused
@@ -71,6 +69,18 @@ module _ (r : Radio) (room : ℕ) (before : List Symbol) (x : Symbol) (g : Hand)
 
   abbrev pub Turned : Type 0
   Turned = On ⊎ (Over ⊎ Off)
+
+-- with room for every report the test of room changes nothing
+pub room-for-any : (r : Radio) (h : Hand) (x : Symbol) → h .length ≤ 127
+    → roomed 127 h (pick (eqb (x .number) DONE) (advanced r h (x .value) (x .distance)) (stopped (x .number) h))
+    ≡ pick (eqb (x .number) DONE) (advanced r h (x .value) (x .distance)) (stopped (x .number) h)
+unfolding advanced
+room-for-any r h x f =
+    let raw = rawFrom r (h .last) (x .value) in
+    let octet = shifted r (h .octet) raw in
+    by-test (eqb (x .number) DONE)
+    (λ a. rw a (rules-room (perOctet r) 127 (h .taken) raw octet (lengthAfter (perOctet r) (h .taken) (h .length) octet) (x .distance) (x .value) h f (λ e. rw e f)))
+    (λ a. rw (a, le-ltb 127 (h .length) f))
 
 -- no symbol is answered 13
 symbol-number : (r : Radio) (w : List ℕ) → symbolOf r w .number ≡ MORE → ⊥
@@ -130,6 +140,9 @@ module _ (r : Radio) (S : Sound r) (low : r .limit ≤ 255) (room : ℕ) (before
     count-more : (h .count + d) % 2 ^ 32 ≡ h .count + d
     count-more = mod-eq-of-lt {n = h .count + d} {m = 2 ^ 32} count-small
 
+    low-more : (h .count + d) % 2 ^ 32 ≤ r .limit * ((h .taken + 1) % 2 ^ 32)
+    low-more = rw (taken-more, count-more) (omega (arith, O .low, ld, mul-suc (r .limit) (h .taken)))
+
     carried : (y : ℕ) → Carries r (before ++ reads v d ∷ []) (moved h y n d v octet)
     carried y = carries-more r S before h C v d lv (omega (arith, early, C .taken)) (rw (← C .count) count-small) y
 
@@ -148,7 +161,7 @@ module _ (r : Radio) (S : Sound r) (low : r .limit ≤ 255) (room : ℕ) (before
                 under = rw taken-more (omega (arith, reached, rules-before (perOctet r) room (h .taken) (rawFrom r (h .last) v) octet n (code-is ∙ f)));
                 fits = p .0;
                 few = p .1;
-                low = rw (taken-more, count-more) (omega (arith, O .low, ld, mul-suc (r .limit) (h .taken)));
+                low = low-more;
               };
           same = λ next. rw (eq-eqb found MORE f);
         }
@@ -160,9 +173,13 @@ module _ (r : Radio) (S : Sound r) (low : r .limit ≤ 255) (room : ℕ) (before
         record {
           number = f;
           carries = carried found;
-          total = rw taken-more (rules-last (perOctet r) room (h .taken) (rawFrom r (h .last) v) octet n (code-is ∙ f));
-          fits = p .0;
-          few = p .1;
+          all =
+              record {
+                total = rw taken-more (rules-last (perOctet r) room (h .taken) (rawFrom r (h .last) v) octet n (code-is ∙ f));
+                fits = p .0;
+                few = p .1;
+                low = low-more;
+              };
           same = λ next. rw f;
         }
 

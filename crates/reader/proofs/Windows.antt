@@ -1,10 +1,10 @@
 -- The windows of a buffer, the symbols in them, and the reading of windows one symbol at a time. For any radio. Assumes nothing.
-use mathlib.Core.Path.{_≡_, refl, ap, _∙_}
+use mathlib.Core.Path.{_≡_, refl, sym, ap, _∙_}
 use mathlib.Core.List.{List, [], _∷_, _++_, map}
-use Prim.Native.Nat.{ℕ, zero, suc, _+_, _/_, _≤_, _<_}
-use native.Mathlib.Nat.{add-zero, zero-add}
+use Prim.Native.Nat.{ℕ, zero, suc, _+_, _-_, _*_, _/_, _≤_, _<_}
+use native.Mathlib.Nat.{add-zero, zero-add, suc-mul, le-div-iff-mul-le, div-lt-iff-lt-mul}
 use native.Mathlib.Omega.{arith}
-use lib.ListN.{length, getD, take, drop, length-map, List·getD-map, drop-of-length-le}
+use lib.ListN.{length, getD, take, drop, length-map, length-drop, List·getD-map, drop-of-length-le}
 use lib.Seq.{take-suc, drop-cons, length-take-le}
 use Rattle.codes.specs.Numbers.{RUNOUT}
 use Rattle.codes.specs.Radio.{Radio}
@@ -34,6 +34,27 @@ module _ (r : Radio) (chips : List ℕ) where
   -- and each is its symbol's chips
   pub whole-at : (s : ℕ) → s < length (whole r chips) → getD (whole r chips) s [] ≡ window r chips s
   whole-at s h = windows-at 0 (length chips / r .size) s (omega (arith, whole-long)) ∙ ap (window r chips) (zero-add s)
+
+  -- after s of them: one more is whole, with these chips, or there are no more
+  module _ (p : 0 < r .size) (s at : ℕ) (e : at ≡ s * r .size) (u : at ≤ length chips) where
+    pub window-next : r .size ≤ length chips - at → s < length (whole r chips)
+    window-next l = rw whole-long (le-div-iff-mul-le {k = r .size} {x = suc s} {y = length chips} p .1 (omega (arith, suc-mul s (r .size))))
+
+    pub window-is : r .size ≤ length chips - at → take (r .size) (drop at chips) ≡ getD (whole r chips) s []
+    window-is l = ap (λ (i : ℕ). take (r .size) (drop i chips)) e ∙ sym (whole-at s (window-next l))
+
+    pub window-out : length chips - at < r .size → length (whole r chips) ≡ s
+    window-out l =
+        let w : length chips / r .size < suc s = div-lt-iff-lt-mul {k = r .size} {x = length chips} {y = suc s} p .1 (omega (arith, suc-mul s (r .size))) in
+        let v : s ≤ length chips / r .size = le-div-iff-mul-le {k = r .size} {x = s} {y = length chips} p .1 (omega arith) in
+        omega (arith, whole-long)
+
+  -- each has one symbol's chips
+  pub whole-sized : 0 < r .size → (s : ℕ) → s < length (whole r chips) → length (getD (whole r chips) s []) ≡ r .size
+  whole-sized p s h =
+      let l : suc s * r .size ≤ length chips = le-div-iff-mul-le {k = r .size} {x = suc s} {y = length chips} p .0 (omega (arith, whole-long)) in
+      let m : r .size ≤ length (drop (s * r .size) chips) = simp length-drop (omega (arith, suc-mul s (r .size))) in
+      ap length (whole-at s h) ∙ length-take-le (r .size) (drop (s * r .size) chips) m
 
 -- the symbols of windows
 abbrev pub seen : Radio → List (List ℕ) → List Symbol

@@ -1,10 +1,12 @@
 -- Not to be believed: what the code carries from symbol to symbol, a record of numbers. That the numbers are those of the symbols
 -- before is shown in proofs/Carried.antt, that following them is the reading order in proofs/Turns.antt and
--- proofs/Scanning.antt. It is total: whatever the numbers are, they are reduced or wrap, and no sum overflows.
+-- proofs/Sofar.antt. It is total: whatever the numbers are, they are reduced or wrap, and no sum overflows. The stepping receiver's push
+-- names `followed` and `keptAt`: of a forged record that passes its test they are all that is said.
 use mathlib.Core.Path.{_≡_}
 use Prim.Native.Nat.{ℕ, _+_, _-_, _*_, _/_, _%_, _^_, _≤_}
-use mathlib.Core.List.{List, []}
+use mathlib.Core.List.{List}
 use lib.ListN.{length, take, set}
+use lib.Seq.{paste}
 use lib.Dec.{eqb, leb, ltb}
 use Rattle.codes.specs.Numbers.{DONE, BADMODE, NOROOM, RUNOUT, MORE}
 use Rattle.codes.specs.Chips.{pick}
@@ -14,7 +16,7 @@ use Rattle.frame.specs.Frame.{perOctet}
 use Rattle.reader.specs.declared.Hand.{Hand}
 use Rattle.reader.specs.declared.Reading.{Reading}
 use Rattle.reader.specs.Received.{rawAfter}
-use Rattle.reader.specs.Order.{Answer, refused, done, ends, rules, reading}
+use Rattle.reader.specs.Order.{Answer, refused, done, ends, rules}
 use Rattle.reader.specs.Read.{told}
 
 -- before the first symbol
@@ -83,24 +85,32 @@ keptIn per h octets =
 unfoldable pub keptAt : ℕ → Hand → List ℕ → List ℕ
 keptAt mode h octets = pick (known mode) (onward (h .number) (keptIn (perOctet (radioOf mode)) h octets) octets) octets
 
--- the answer of a hand that has ended, or whose chips have run out
-abbrev pub stoppedAt : ℕ → ℕ → Reading
-stoppedAt x place = record { number = x; place = place; n = 0; count = 0 }
+-- the first n octets over the first n bytes of a buffer, as it was where there are not so many of both
+unfoldable pub storedIn : ℕ → List ℕ → List ℕ → List ℕ
+storedIn n octets buffer = pick (ltb 127 n) buffer (pick (ltb (length buffer) n) buffer (paste buffer 0 octets n))
 
+-- what is given back of a hand that has ended, or whose chips have run out
 unfoldable pub toldBy : Hand → Reading
 toldBy h =
-    pick (eqb (h .number) MORE) (stoppedAt RUNOUT (h .taken))
+    pick (eqb (h .number) MORE) (told (refused RUNOUT (h .taken)))
     (pick (eqb (h .number) DONE) (record { number = DONE; place = h .taken; n = h .length; count = h .count })
-    (stoppedAt (h .number) (h .taken)))
+    (told (refused (h .number) (h .taken))))
 
-abbrev pub reportOf : Answer → List ℕ
-reportOf (refused x place) = []
-reportOf (done place report count) = report
+-- and as the reading order's answer, with the octets gathered
+unfoldable pub handed : Hand → List ℕ → Answer
+handed h octets =
+    pick (eqb (h .number) MORE) (refused RUNOUT (h .taken))
+    (pick (eqb (h .number) DONE) (done (h .taken) (take (h .length) octets) (h .count)) (refused (h .number) (h .taken)))
 
--- the hand tells a reading's answer, and the octets gathered begin with its report
-pub record Scanned (r : Radio) (room : ℕ) (chips : List ℕ) (octets : List ℕ) (h : Hand) : Type 0 where
-  pub tells : toldBy h ≡ told (reading r room chips)
-  pub holds : take (length (reportOf (reading r room chips))) octets ≡ reportOf (reading r room chips)
-  pub fits : toldBy h .n ≤ room
-  pub few : toldBy h .n ≤ 127
+-- all symbols of the hand's frame are taken, its report has room, and no more chips were repaired than the limit times the symbols taken
+pub record Complete (r : Radio) (room : ℕ) (h : Hand) : Type 0 where
+  pub total : h .taken ≡ (6 + h .length) * perOctet r
+  pub fits : h .length ≤ room
+  pub few : h .length ≤ 127
+  pub low : h .count ≤ r .limit * h .taken
+
+-- the hand and the octets gathered tell the answer
+pub record Tells (r : Radio) (room : ℕ) (answer : Answer) (octets : List ℕ) (h : Hand) : Type 0 where
+  pub is : answer ≡ handed h octets
+  pub well : h .number ≡ DONE → Complete r room h
   pub long : length octets ≡ 127

@@ -1,16 +1,15 @@
 // The reader: a chip buffer to the report or a numbered refusal, by the reading order. A loop over symbols around a loop over
 // chips; between symbols it carries a few numbers, the hand, which are those of the symbols before (proofs/Carried.antt), so that
-// what is still to be read stays the whole reading's answer (proofs/Scanning.antt).
+// what is still to be read stays the whole reading's answer (proofs/Sofar.antt, proofs/Scanning.antt).
 ghost use mathlib.Core.Path.{_≡_};
 ghost use mathlib.Core.Bool.{true};
 ghost use Prim.Native.Nat.{_≤_, _<_};
 ghost use lib.ListN.{length};
-ghost use lib.Seq.{paste};
 ghost use Rattle.codes.specs.Radio.{known, radioOf};
 ghost use Rattle.frame.specs.Outcome.{outcome};
-ghost use Rattle.reader.specs.Order.{rules};
-ghost use Rattle.reader.specs.Read.{readOf};
-ghost use Rattle.reader.specs.Taking.{begun, stopped, rawFrom, shifted, lengthAfter, moved, onward, followed, roomed, keptAt, toldBy, stoppedAt, Scanned};
+ghost use Rattle.reader.specs.Order.{refused, rules, reading};
+ghost use Rattle.reader.specs.Read.{told, readOf};
+ghost use Rattle.reader.specs.Taking.{begun, stopped, rawFrom, shifted, lengthAfter, moved, onward, followed, roomed, storedIn, keptAt, toldBy, Tells};
 
 // What the reader gives back: 0, the number of symbols in the frame, the report's length and the number of chips repaired; or a
 // refusal, the number of the symbol where it stands, 0 and 0.
@@ -44,7 +43,7 @@ pub fn read(mode: u32, chips: &[u8], report: &mut [u8]) -> Reading
     let mut octets = [0u8; 127];
     let hand = scan(mode, chips, report.len(), &mut octets);
     let answer = tell(hand);
-    store(&octets, answer.n as usize, report);
+    store(octets, answer.n as usize, report);
     answer
 }
 
@@ -53,7 +52,7 @@ pub fn read(mode: u32, chips: &[u8], report: &mut [u8]) -> Reading
 // loops with the hand's number and place. `keep` stands before the last test, so that the frame's last octet is kept too.
 fn scan(mode: u32, chips: &[u8], room: usize, octets: &mut [u8; 127]) -> Hand
     requires { ⌜ (known mode ≡ true) × (length (now octets) ≡ 127) ⌝ }
-    ensures { λ r. ⌜ Scanned (radioOf mode) room (now (chips .entry)) (now (octets .exit)) r ⌝ }
+    ensures { λ r. ⌜ Tells (radioOf mode) room (reading (radioOf mode) room (now (chips .entry))) (now (octets .exit)) r ⌝ }
 {
     let words = codes::table(mode);
     let size = codes::size_of(mode);
@@ -256,9 +255,9 @@ fn tell(hand: Hand) -> Reading
     }
 }
 
-// A refusal's n and count are 0.
-fn refusal(number: u32, place: u32) -> Reading
-    ensures { λ r. ⌜ r ≡ stoppedAt number place ⌝ }
+// What a refusal gives back: n and count are 0.
+pub fn refusal(number: u32, place: u32) -> Reading
+    ensures { λ r. ⌜ r ≡ told (refused number place) ⌝ }
 {
     Reading {
         number,
@@ -268,11 +267,16 @@ fn refusal(number: u32, place: u32) -> Reading
     }
 }
 
-// The first n octets over the first n bytes.
-fn store(octets: &[u8; 127], n: usize, report: &mut [u8])
-    requires { ⌜ (n ≤ 127) × (length (now octets) ≡ 127) × (n ≤ length (now report)) ⌝ }
-    ensures { λ _. ⌜ now (report .exit) ≡ paste (now (report .entry)) 0 (now (octets .entry)) n ⌝ }
+// Stores the first n octets over the first n bytes; nothing where there are not so many of both.
+pub fn store(octets: [u8; 127], n: usize, report: &mut [u8])
+    ensures { λ _. ⌜ now (report .exit) ≡ storedIn n octets (now (report .entry)) ⌝ }
 {
+    if 127 < n {
+        return;
+    }
+    if report.len() < n {
+        return;
+    }
     let mut k: usize = 0;
     while k < n {
         report[k] = octets[k];

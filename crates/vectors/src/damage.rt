@@ -31,6 +31,17 @@ pub fn octet_at(mode: u32, octet: u32) -> usize
     }
 }
 
+// The number of symbols in so many octets.
+pub fn symbols_in(mode: u32, octets: u32) -> usize
+    ensures { λ r. ⌜ (octets * 2 ≤ r) × (r ≤ octets * 8) ⌝ }
+{
+    if mode == 0 {
+        octets as usize * 8
+    } else {
+        octets as usize * 2
+    }
+}
+
 // The frame is written in one mode and read in another where the case is a mode without a radio. Changed are `count` chips from `at`
 // on, and again after each `step` chips: a 0 becomes `zero`, and all else `one`.
 pub struct Case {

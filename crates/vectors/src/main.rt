@@ -1,8 +1,8 @@
-// Runs the writer and the reader on chosen cases and prints what they answer, to be compared with the file stdout. The chip strings
-// there were made of tables 21 and 24 of the draft standard, and the other lines were worked out from the rules of document 01:
-// neither by this code. What is printed isn't proved but compared; the proofs show that no place outside a buffer is used and that
-// each loop ends. They go through because a place is tested before it is used, and because the writer promises a count that fits the
-// buffer (`chips-fit`). A case that didn't fit would print no line, and the comparison would show that.
+// Runs the writer, the reader and the stepping receiver on chosen cases and prints what they answer, to be compared with the file
+// stdout. The chip strings there were made of tables 21 and 24 of the draft standard, and the other lines were worked out from the
+// rules of document 01: neither by this code. What is printed isn't proved but compared; the proofs show that no place outside a
+// buffer is used and that each loop ends. They go through because a place is tested before it is used, and because the writer
+// promises a count that fits the buffer (`chips-fit`). A case that didn't fit would print no line, and the comparison would show that.
 ghost use mathlib.Core.Path.{_≡_};
 ghost use lib.ListN.{length};
 use libc::STDOUT_FILENO;
@@ -10,6 +10,7 @@ use libc::STDOUT_FILENO;
 mod damage;
 mod lines;
 mod reads;
+mod steps;
 
 // The chips of the longest frame.
 const LONGEST: usize = 15960;
@@ -33,6 +34,7 @@ fn main() {
     whole_frame(0, b"rope 12 wet", &mut chips);
     whole_frame(1, b"rope 12 wet", &mut chips);
     reads::all();
+    steps::all();
 }
 
 // Room for the longest frame, with no chip in it: what the writer leaves alone stays 255.

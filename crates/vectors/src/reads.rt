@@ -41,7 +41,7 @@ fn line(what: &[u8], case: Case) {
 // The same with the change of another case after the first.
 fn twice(what: &[u8], case: Case, then: Case) {
     let octets = sample();
-    let mut chips = buffer();
+    let mut chips = made(case);
     let n = case.octets;
     let count = case.chips;
     if 127 < n {
@@ -50,14 +50,27 @@ fn twice(what: &[u8], case: Case, then: Case) {
     if LONGEST < count {
         return;
     }
-    frame::write(case.written, &octets[..n], &mut chips);
-    case.apply(&mut chips);
     then.apply(&mut chips);
-    read_line(what, case.read, &chips[..count], &octets[..n], case.room);
+    read_line(what, case.read, &chips[0..count], &octets[0..n], case.room);
+}
+
+// The chips of a case after its change. A report too long to be written leaves none.
+pub fn made(case: Case) -> [u8; LONGEST]
+    ensures { λ r. ⌜ 15960 ≡ length r ⌝ }
+{
+    let octets = sample();
+    let mut chips = buffer();
+    let n = case.octets;
+    if 127 < n {
+        return chips;
+    }
+    frame::write(case.written, &octets[0..n], &mut chips);
+    case.apply(&mut chips);
+    chips
 }
 
 // Octets that differ from one to the next, and none that the lent buffer holds before a reading.
-fn sample() -> [u8; 127]
+pub fn sample() -> [u8; 127]
     ensures { λ r. ⌜ 127 ≡ length r ⌝ }
 {
     let mut octets = [0u8; 127];

@@ -1,7 +1,7 @@
 -- `read` meets its contract: a law for each of its two ways (Told.antt). Assumes nothing.
 use mathlib.Core.Path.{refl}
 use Rattle.codes.proofs.Modes.{sized, sizeless}
-use Rattle.reader.proofs.Told.{tells-no-radio, fits, tells}
+use Rattle.reader.proofs.Told.{tells-no-radio, tells}
 use borrow.Author.Needs.{needs}
 use Rattle.reader.proofs.read.Statement.{statement}
 use Rattle.reader.proofs.read.Tie as tie
@@ -30,20 +30,17 @@ cast-store : tie.Need-cast-store
 cast-store c = search needs
 
 store-requires : tie.Need-store-requires
-store-requires c κs =
-    let t = c .before .before .before in
-    let a = c .before .before .before .before .before .before .before .before .before .before .args in
-    fits (a .mode) (a .chips .now) (a .report .now) _ _ (t .before .scan .ensures) _ (t .tell .ensures)
+store-requires c κs = search needs
 
 same-length : tie.Need-same-length
 same-length c = search needs
 
 returns-2 : tie.Need-returns-2
 returns-2 c =
-    let t = c .before .before .before .before .before .before in
-    let a = c .before .before .before .before .before .before .before .before .before .before .before .before .before .args in
-    tells (a .mode) (a .chips .now) (a .report .now) _ _ (t .before .scan .ensures) _ (t .tell .ensures)
-    (sized (a .mode) _ (t .before .before .before .before .size-of .ensures) (t .before .before .before .if1 .left) .0) _ (c .before .before .store .ensures)
+    let t = c .before .before .before .before .before in
+    let a = t .before .before .before .before .before .before .before .args in
+    tells (a .mode) (a .chips .now) (a .report .now) (sized (a .mode) _ (t .before .before .before .before .size-of .ensures) (t .before .before .before .if1 .left) .0)
+    _ _ (t .before .scan .ensures) _ (t .tell .ensures) _ (c .before .before .store .ensures)
 
 pub read-spec : {M : Type 1} → statement M
 read-spec =

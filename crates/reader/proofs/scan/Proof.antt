@@ -9,7 +9,7 @@ use Rattle.codes.specs.Numbers.{NOCHIP}
 use Rattle.codes.specs.Chips.{bad}
 use Rattle.codes.specs.Radio.{radioOf}
 use Rattle.reader.specs.Taking.{stopped}
-use Rattle.reader.proofs.Scanning.{Scanning, Ways}
+use Rattle.reader.proofs.Scanning.{Scanning, Turning}
 use Rattle.reader.proofs.Scans.{bad-byte, good-byte, size-positive, starts, runs-out, stops-bad, all-chips, turns}
 use Rattle.reader.proofs.scan.Statement.{statement}
 use Rattle.reader.proofs.scan.Tie as tie
@@ -45,7 +45,7 @@ Turn =
     reads.Pre reads.Post Inv-chips μ-chips Inv-symbols μ-symbols
 
 turn : (c : Turn)
-    → Ways (radioOf (c .before .before .before .before .before .before .before .before .before .before .before .before .before .before .before .args .mode)) (c .before .before .before .before .before .before .before .before .before .before .before .before .before .before .before .args .room) (c .before .before .before .before .before .before .before .before .before .before .before .before .before .before .before .args .chips .now) (c .before .keep .last .1 .1 .0) (c .before .before .before .with-room .result)
+    → Turning (radioOf (c .before .before .before .before .before .before .before .before .before .before .before .before .before .before .before .args .mode)) (c .before .before .before .before .before .before .before .before .before .before .before .before .before .before .before .args .room) (c .before .before .before .before .before .before .before .before .before .before .before .before .before .before .before .args .chips .now) (c .before .keep .last .1 .1 .0) (c .before .before .before .with-room .result)
     (c .before .before .before .before .before .before .before .before .before .before .symbols .at + c .before .before .before .before .before .before .before .before .before .before .before .before .size-of .result)
 turn c =
     let j = c .before .before .before .before .before .before .before in

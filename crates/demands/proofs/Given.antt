@@ -1,0 +1,207 @@
+-- The numbers that the stepping receiver's calls give back: those that document 01's table has for each. And what a refusal leaves.
+-- Assumes nothing.
+use mathlib.Core.Path.{_≡_, refl, ap, _∙_}
+use mathlib.Core.Bool.{Bool, true, false, not}
+use mathlib.Core.List.{List, [], _∷_}
+use mathlib.Core.Logic.{_⊎_, inl, inr, ⊎-elim}
+use Prim.Native.Nat.{ℕ, _+_, _*_}
+use lib.ListN.{length, take}
+use lib.Dec.{eqb, ltb}
+use borrow.Author.Tests.{eq-eqb, eqb-true, not-false}
+use Rattle.codes.specs.Numbers.{DONE, BADMODE, NOROOM, RUNOUT, NOCHIP, LOST, PREAMBLE, BADSTART, RESERVED, ENDED, BADPART, NOTENDED, MORE, FORGED}
+use Rattle.codes.specs.Chips.{pick, among, bad}
+use Rattle.codes.specs.Radio.{Radio, known, radioOf}
+use Rattle.codes.specs.Symbol.{valued, symbolOf}
+use Rattle.codes.specs.declared.Symbol.{Symbol}
+use Rattle.codes.proofs.Tests.{by-test, not-both}
+use Rattle.frame.specs.Frame.{startOctet, perOctet}
+use Rattle.reader.specs.declared.Hand.{Hand}
+use Rattle.reader.specs.Order.{Answer, refused, done, both, ends, rules}
+use Rattle.reader.specs.Read.{told}
+use Rattle.reader.specs.Taking.{stopped, rawFrom, shifted, lengthAfter, moved, advanced, followed, keptAt}
+use Rattle.reader.proofs.Steps.{stops}
+use Rattle.receiver.specs.declared.Receiver.{Receiver}
+use Rattle.receiver.specs.declared.Step.{Step}
+use Rattle.receiver.specs.Record.{step, startOf, isOpen, endedWell, forged, handOf, held, tookSymbol, pushOf, endedWith, finishOf, roomFor, takes, takeOf}
+use Rattle.receiver.proofs.Ways.{passed-known}
+use Rattle.demands.proofs.Fair.{by-pick}
+use Rattle.demands.proofs.Demand1.{leaves}
+
+-- every number of a list passes a test
+abbrev pub pass : (ℕ → Bool) → List ℕ → Bool
+pass p [] = true
+pass p (x ∷ xs) = pick (p x) (pass p xs) false
+
+-- then so does one that is among them
+pub among-pass : (p : ℕ → Bool) (xs : List ℕ) → pass p xs ≡ true → (x : ℕ) → among x xs ≡ true → p x ≡ true
+among-pass p [] t x m = not-both false m refl
+among-pass p (y ∷ ys) t x m =
+    by-test (p y)
+    (λ a. by-test (eqb x y) (λ e. rw (eqb-true x y e) a) (λ e. among-pass p ys (rw a at t) x (rw e at m)))
+    (λ a. not-both false (rw a at t) refl)
+
+-- those of a symbol in hand: go on, done, or refused
+abbrev pub ofSymbol : List ℕ
+ofSymbol = DONE ∷ NOCHIP ∷ LOST ∷ PREAMBLE ∷ BADSTART ∷ RESERVED ∷ MORE ∷ []
+
+symbol-given : (r : Radio) (w : List ℕ) → among (symbolOf r w .number) ofSymbol ≡ true
+unfolding symbolOf valued
+symbol-given r w =
+    by-pick P (bad w) _ _ (λ _. refl) (λ _. by-pick P (ltb _ (length (r .words))) _ _ (λ _. refl) (λ _. refl))
+  where
+    P : Symbol → Type 0
+    P z = among (z .number) ofSymbol ≡ true
+
+-- with room for every report 3 is none of them, since 9 is tested before it
+rules-given : (per s raw start n : ℕ) → among (rules per 127 s raw start n) ofSymbol ≡ true
+unfolding rules
+rules-given per s raw start n =
+    by-pick P (both (ltb s (4 * per)) (not (eqb raw 0))) _ _ (λ _. refl)
+    (λ _. by-pick P (both (ends per 4 s) (not (eqb start startOctet))) _ _ (λ _. refl)
+    (λ _. by-pick P (both (ends per 5 s) (ltb 127 n)) _ _ (λ _. refl)
+    (λ f. by-pick P (both (ends per 5 s) (ltb 127 n)) _ _ (λ t. not-both _ t f)
+    (λ _. by-pick P (ends per (5 + n) s) _ _ (λ _. refl) (λ _. refl)))))
+  where
+    P : ℕ → Type 0
+    P z = among z ofSymbol ≡ true
+
+-- the ways of a value taken: moved or stopped by the rules
+module _ (r : Radio) (h : Hand) (v d : ℕ) where
+  abbrev octet : ℕ
+  octet = shifted r (h .octet) (rawFrom r (h .last) v)
+
+  abbrev n : ℕ
+  n = lengthAfter (perOctet r) (h .taken) (h .length) octet
+
+  abbrev found : ℕ
+  found = rules (perOctet r) 127 (h .taken) (rawFrom r (h .last) v) octet n
+
+  advanced-ways : (P : Hand → Type 0) → ((found ≡ MORE) ⊎ (found ≡ DONE) → P (moved h found n d v octet)) → P (stopped found h) → P (advanced r h v d)
+  unfolding advanced
+  advanced-ways P a b =
+      by-pick P (eqb found MORE) (moved h found n d v octet) _ (λ t. a (inl (eqb-true found MORE t)))
+      (λ _. by-pick P (eqb found DONE) (moved h found n d v octet) (stopped found h) (λ t. a (inr (eqb-true found DONE t))) (λ _. b))
+
+  advanced-given : among (advanced r h v d .number) ofSymbol ≡ true
+  advanced-given =
+      let given = rules-given (perOctet r) (h .taken) (rawFrom r (h .last) v) octet n in
+      advanced-ways (λ g. among (g .number) ofSymbol ≡ true) (λ _. given) given
+
+followed-given : (mode : ℕ) → known mode ≡ true → (h : Hand) (w : List ℕ) → among (followed mode h (symbolOf (radioOf mode) w) .number) ofSymbol ≡ true
+unfolding followed
+followed-given mode k h w =
+    let x = symbolOf (radioOf mode) w in
+    rw k
+    (by-pick (λ (g : Hand). among (g .number) ofSymbol ≡ true) (eqb (x .number) DONE) (advanced (radioOf mode) h (x .value) (x .distance)) (stopped (x .number) h)
+    (λ _. advanced-given (radioOf mode) h (x .value) (x .distance)) (λ _. symbol-given (radioOf mode) w))
+
+-- ---- each call
+
+-- a symbol that push takes
+pub took-given : (c : Receiver) (part : List ℕ) → forged c ≡ false → c .ended ≡ MORE → among (tookSymbol c (symbolOf (radioOf (c .mode)) part) .number) ofSymbol ≡ true
+took-given c part f o = followed-given (c .mode) (passed-known c f (inl o)) (handOf c) part
+
+-- what is true of push's ways
+pub push-ways : (c : Receiver) (part : List ℕ) (P : Step → Type 0) → (forged c ≡ true → P (step FORGED c)) → P (step ENDED c) → P (step BADPART c)
+    → (forged c ≡ false → c .ended ≡ MORE → P (tookSymbol c (symbolOf (radioOf (c .mode)) part))) → P (pushOf c part)
+unfolding pushOf
+push-ways c part P f e b t =
+    by-pick P (forged c) _ _ f
+    (λ g. by-pick P (not (isOpen c)) _ _ (λ _. e)
+    (λ o. by-pick P (not (eqb (length part) (radioOf (c .mode) .size))) _ _ (λ _. b) (λ _. t g (eqb-true (c .ended) MORE (not-false _ o)))))
+
+-- Push gives back one of these numbers.
+pub push-numbers : (c : Receiver) (part : List ℕ)
+    → among (pushOf c part .number) (DONE ∷ NOCHIP ∷ LOST ∷ PREAMBLE ∷ BADSTART ∷ RESERVED ∷ ENDED ∷ BADPART ∷ MORE ∷ FORGED ∷ []) ≡ true
+push-numbers c part =
+    push-ways c part (λ (s : Step). among (s .number) given ≡ true) (λ _. refl) refl refl
+    (λ f o. among-pass (λ x. among x given) ofSymbol refl (tookSymbol c (symbolOf (radioOf (c .mode)) part) .number) (took-given c part f o))
+  where
+    given : List ℕ
+    given = DONE ∷ NOCHIP ∷ LOST ∷ PREAMBLE ∷ BADSTART ∷ RESERVED ∷ ENDED ∷ BADPART ∷ MORE ∷ FORGED ∷ []
+
+-- 34, 10 and 11 give the record back as it was. Any other number is the one that the record then holds: 13 while it is open, or what ended it.
+pub push-tells : (c : Receiver) (part : List ℕ)
+    → ((among (pushOf c part .number) (ENDED ∷ BADPART ∷ FORGED ∷ []) ≡ true) × (pushOf c part .receiver ≡ c))
+    ⊎ ((among (pushOf c part .number) ofSymbol ≡ true) × (pushOf c part .receiver .ended ≡ pushOf c part .number))
+push-tells c part =
+    push-ways c part
+    (λ (s : Step). ((among (s .number) (ENDED ∷ BADPART ∷ FORGED ∷ []) ≡ true) × (s .receiver ≡ c)) ⊎ ((among (s .number) ofSymbol ≡ true) × (s .receiver .ended ≡ s .number)))
+    (λ _. inl (refl, refl)) (inl (refl, refl)) (inl (refl, refl)) (λ f o. inr (took-given c part f o, refl))
+
+-- Start gives back one of these.
+pub start-numbers : (mode : ℕ) → among (startOf mode .number) (BADMODE ∷ MORE ∷ []) ≡ true
+unfolding startOf
+start-numbers mode = by-pick (λ (s : Step). among (s .number) (BADMODE ∷ MORE ∷ []) ≡ true) (known mode) _ _ (λ _. refl) (λ _. refl)
+
+-- what is true of finish's ways
+pub finish-ways : (c : Receiver) (P : Step → Type 0) → (forged c ≡ true → P (step FORGED c)) → P (step ENDED c) → P (step RUNOUT (endedWith RUNOUT c)) → P (finishOf c)
+unfolding finishOf
+finish-ways c P f e r = by-pick P (forged c) _ _ f (λ _. by-pick P (not (isOpen c)) _ _ (λ _. e) (λ _. r))
+
+-- Finish gives back one of these.
+pub finish-numbers : (c : Receiver) → among (finishOf c .number) (RUNOUT ∷ ENDED ∷ FORGED ∷ []) ≡ true
+finish-numbers c = finish-ways c (λ (s : Step). among (s .number) (RUNOUT ∷ ENDED ∷ FORGED ∷ []) ≡ true) (λ _. refl) refl refl
+
+-- what is true of take's ways
+pub takes-ways : (c : Receiver) (room : ℕ) (P : Answer → Type 0) → (forged c ≡ true → P (refused FORGED 0)) → P (refused NOTENDED 0)
+    → P (refused NOROOM (c .taken)) → P (done (c .taken) (take (c .length) (c .octets)) (c .count)) → P (refused (c .ended) (c .taken)) → P (takes c room)
+unfolding takes roomFor
+takes-ways c room P f o n d e =
+    by-pick P (forged c) _ _ f
+    (λ _. by-pick P (isOpen c) _ _ (λ _. o)
+    (λ _. by-pick P (endedWell c) _ _ (λ _. by-pick P (ltb room _) _ _ (λ _. n) (λ _. d)) (λ _. e)))
+
+-- Take gives back one of these, or the number that the record ended with.
+pub take-numbers : (c : Receiver) (buffer : List ℕ) → among (takeOf c buffer .answer .number) (c .ended ∷ DONE ∷ NOROOM ∷ NOTENDED ∷ FORGED ∷ []) ≡ true
+unfolding told
+take-numbers c buffer = takes-ways c (length buffer) P (λ _. later FORGED refl) (later NOTENDED refl) (later NOROOM refl) (later DONE refl) (rw (eq-eqb (c .ended) (c .ended) refl))
+  where
+    P : Answer → Type 0
+    P a = among (told a .number) (c .ended ∷ DONE ∷ NOROOM ∷ NOTENDED ∷ FORGED ∷ []) ≡ true
+
+    later : (x : ℕ) → among x (DONE ∷ NOROOM ∷ NOTENDED ∷ FORGED ∷ []) ≡ true → among x (c .ended ∷ DONE ∷ NOROOM ∷ NOTENDED ∷ FORGED ∷ []) ≡ true
+    later x t = by-pick (λ b. b ≡ true) (eqb x (c .ended)) _ _ (λ _. refl) (λ _. t)
+
+-- ---- what a refusal leaves
+
+-- A take that isn't done: n and count 0, report buffer unchanged.
+pub take-refused : (c : Receiver) (buffer : List ℕ) → (takeOf c buffer .answer .number ≡ DONE → ⊥)
+    → (takeOf c buffer .answer .n ≡ 0) × (takeOf c buffer .answer .count ≡ 0) × (takeOf c buffer .buffer ≡ buffer)
+take-refused c buffer = leaves (takes c (length buffer)) buffer
+
+-- a hand that a symbol stops stays as it was, but for the number
+followed-stops : (mode : ℕ) (h : Hand) (x : Symbol) → (followed mode h x .number ≡ MORE → ⊥) → (followed mode h x .number ≡ DONE → ⊥) → followed mode h x ≡ stopped (followed mode h x .number) h
+unfolding followed
+followed-stops mode h x =
+    by-pick P (known mode) _ _
+    (λ _. by-pick P (eqb (x .number) DONE) (advanced (radioOf mode) h (x .value) (x .distance)) (stopped (x .number) h)
+    (λ _. advanced-ways (radioOf mode) h (x .value) (x .distance) P (λ t m d. absurd (⊎-elim m d t)) (λ m d. refl))
+    (λ _ m d. refl))
+    (λ _ m d. refl)
+  where
+    P : Hand → Type 0
+    P g = (g .number ≡ MORE → ⊥) → (g .number ≡ DONE → ⊥) → g ≡ stopped (g .number) h
+
+-- and so do the octets
+kept-stops : (mode : ℕ) (h : Hand) (octets : List ℕ) → (h .number ≡ MORE → ⊥) → (h .number ≡ DONE → ⊥) → keptAt mode h octets ≡ octets
+unfolding keptAt
+kept-stops mode h octets m d = by-pick (λ (l : List ℕ). l ≡ octets) (known mode) _ _ (λ _. stops (h .number) _ octets m d) (λ _. refl)
+
+-- A refusal of push's symbol leaves the record as it was, but for the number that ends it.
+pub push-refused : (c : Receiver) (part : List ℕ) → among (pushOf c part .number) (NOCHIP ∷ LOST ∷ PREAMBLE ∷ BADSTART ∷ RESERVED ∷ []) ≡ true
+    → pushOf c part .receiver ≡ endedWith (pushOf c part .number) c
+push-refused c part =
+    push-ways c part (λ (s : Step). among (s .number) refusal ≡ true → s .receiver ≡ endedWith (s .number) c)
+    (λ _ t. not-both false t refl) (λ t. not-both false t refl) (λ t. not-both false t refl) (λ f o t.
+    let h = followed (c .mode) (handOf c) (symbolOf (radioOf (c .mode)) part) in
+    let m = none (h .number) MORE t refl in
+    let d = none (h .number) DONE t refl in
+    ap (λ (l : List ℕ). held (c .mode) h l) (kept-stops (c .mode) h (c .octets) m d)
+    ∙ ap (λ (g : Hand). held (c .mode) g (c .octets)) (followed-stops (c .mode) (handOf c) (symbolOf (radioOf (c .mode)) part) m d))
+  where
+    refusal : List ℕ
+    refusal = NOCHIP ∷ LOST ∷ PREAMBLE ∷ BADSTART ∷ RESERVED ∷ []
+
+    none : (x y : ℕ) → among x refusal ≡ true → among y refusal ≡ false → x ≡ y → ⊥
+    none x y t f e = not-both (among y refusal) (rw e at t) f

@@ -1,0 +1,6 @@
+-- Laws of the stepping receiver, leaves first.
+pub mod Ways
+pub mod Honest
+pub mod Stepping
+pub mod Receiving
+pub mod Settled

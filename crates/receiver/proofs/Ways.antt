@@ -1,0 +1,225 @@
+-- The ways of the stepping receiver's functions, over plain values. Assumes nothing.
+use mathlib.Core.Path.{_≡_, sym, ap, ap₂, _∙_}
+use mathlib.Core.Bool.{Bool, true, false, not}
+use mathlib.Core.List.{List}
+use mathlib.Core.Logic.{_⊎_, inl, inr, ⊎-elim}
+use Prim.Native.Nat.{ℕ, _+_, _*_, _≤_, _<_}
+use native.Mathlib.Omega.{arith}
+use lib.Dec.{eqb, leb, ltb}
+use lib.ListN.{length, take}
+use lib.Seq.{length-take-le, take-all}
+use borrow.Author.Tests.{lt-ltb, le-ltb, le-leb, lt-leb, eq-eqb, ne-eqb, eqb-true, eqb-false, ltb-true, ltb-false}
+use Rattle.codes.specs.Numbers.{DONE, BADMODE, NOROOM, RUNOUT, ENDED, BADPART, NOTENDED, MORE, FORGED}
+use Rattle.codes.specs.Chips.{pick}
+use Rattle.codes.specs.Radio.{known, radioOf}
+use Rattle.codes.specs.Symbol.{symbolAt, symbolOf}
+use Rattle.codes.specs.Lent.{sizeAt, limitAt}
+use Rattle.codes.specs.declared.Symbol.{Symbol}
+use Rattle.codes.proofs.Tests.{by-test, not-both}
+use Rattle.codes.proofs.Modes.{each-row, size-known}
+use Rattle.frame.specs.Frame.{perOctet}
+use Rattle.frame.specs.Outcome.{outcome}
+use Rattle.reader.specs.declared.Hand.{Hand}
+use Rattle.reader.specs.declared.Reading.{Reading}
+use Rattle.reader.specs.Order.{Answer, refused, done}
+use Rattle.reader.specs.Read.{told, left}
+use Rattle.reader.specs.Taking.{followed, keptAt, storedIn}
+use Rattle.reader.proofs.Told.{stored, stored-none}
+use Rattle.receiver.specs.declared.Receiver.{Receiver}
+use Rattle.receiver.specs.Record.{step, fresh, startOf, either, isOpen, endedWell, total, forged, handOf, held, withHand, tookSymbol, pushOf, endedWith, finishOf, roomFor, takes, takeOf}
+
+-- the ways of `start`
+module _ (mode : ℕ) where
+  pub start-known : known mode ≡ true → step MORE (fresh mode MORE) ≡ startOf mode
+  unfolding startOf
+  start-known k = rw k
+
+  pub start-unknown : known mode ≡ false → step BADMODE (fresh mode BADMODE) ≡ startOf mode
+  unfolding startOf
+  start-unknown k = rw k
+
+-- no radio accepts a distance above 6
+pub limit-few : (mode limit : ℕ) → limit ≡ limitAt mode → limit ≤ 6
+limit-few mode limit e = by-test (known mode)
+    (λ k. let l : limit ≡ radioOf mode .limit = e ∙ rw k in omega (arith, each-row (λ r. r .limit ≤ 6) (omega arith) (omega arith) mode))
+    (λ k. let l : limit ≡ 0 = e ∙ rw k in omega arith)
+
+-- one number is not below another
+not-below : (a b : ℕ) → leb b a ≡ not (ltb a b)
+not-below a b = by-test (ltb a b) (λ t. rw t (lt-leb b a (ltb-true a b t))) (λ f. rw f (le-leb b a (ltb-false a b f)))
+
+-- the last test of the record: its number of symbols
+abbrev pub number-of-symbols : Receiver → ℕ → Bool
+number-of-symbols c per = pick (isOpen c) (not (ltb (c .taken) ((6 + c .length) * per))) (not (eqb (c .taken) ((6 + c .length) * per)))
+
+-- the ways of `forged`
+module _ (c : Receiver) where
+  pub forged-refused : (c .ended ≡ MORE → ⊥) → (c .ended ≡ DONE → ⊥) → false ≡ forged c
+  unfolding forged
+  forged-refused m d = rw (ne-eqb (c .ended) MORE m, ne-eqb (c .ended) DONE d)
+
+  module _ (g : (c .ended ≡ MORE) ⊎ (c .ended ≡ DONE)) where
+    -- what is tested of one that is open or ended well
+    tested : forged c
+        ≡ either (not (known (c .mode)))
+        (either (ltb 127 (c .length))
+        (either (ltb (radioOf (c .mode) .limit * c .taken) (c .count))
+        (pick (isOpen c) (not (ltb (c .taken) (total c))) (not (eqb (c .taken) (total c))))))
+    unfolding forged
+    tested = ⊎-elim (λ e. rw e) (λ e. rw e) g
+
+    pub forged-no-radio : known (c .mode) ≡ false → true ≡ forged c
+    forged-no-radio k = sym (tested ∙ rw k)
+
+    module _ (k : known (c .mode) ≡ true) where
+      pub forged-long : 127 < c .length → true ≡ forged c
+      forged-long l = sym (tested ∙ rw (k, lt-ltb 127 (c .length) l))
+
+      module _ (s : c .length ≤ 127) (limit : ℕ) (e : limit ≡ limitAt (c .mode)) where
+        limit-is : limit ≡ radioOf (c .mode) .limit
+        limit-is = e ∙ rw k
+
+        pub forged-count : limit * c .taken < c .count → true ≡ forged c
+        forged-count b = sym (tested ∙ rw (k, le-ltb 127 (c .length) s, ← limit-is, lt-ltb (limit * c .taken) (c .count) b))
+
+        module _ (b : c .count ≤ limit * c .taken) (per : ℕ) (p : per ≡ perOctet (radioOf (c .mode))) where
+          pub last-test : forged c ≡ number-of-symbols c per
+          last-test = tested ∙ rw (k, le-ltb 127 (c .length) s, ← limit-is, le-ltb (limit * c .taken) (c .count) b, p)
+
+  -- its two ways
+  module _ (per : ℕ) (t : forged c ≡ number-of-symbols c per) where
+    pub forged-open : c .ended ≡ MORE → leb ((6 + c .length) * per) (c .taken) ≡ forged c
+    forged-open o = not-below (c .taken) ((6 + c .length) * per) ∙ sym (t ∙ rw (eq-eqb (c .ended) MORE o))
+
+    pub forged-ended : (c .ended ≡ MORE → ⊥) → not (eqb (c .taken) ((6 + c .length) * per)) ≡ forged c
+    forged-ended m = sym (t ∙ rw (ne-eqb (c .ended) MORE m))
+
+  -- what is known of one that is open or ended well and passes the test
+  module _ (f : forged c ≡ false) (g : (c .ended ≡ MORE) ⊎ (c .ended ≡ DONE)) where
+    pub passed-known : known (c .mode) ≡ true
+    passed-known = by-test (known (c .mode)) (λ k. k) (λ k. not-both (forged c) (sym (forged-no-radio g k)) f)
+
+    pub passed-length : c .length ≤ 127
+    passed-length = by-test (ltb 127 (c .length)) (λ l. not-both (forged c) (sym (forged-long g passed-known (ltb-true 127 (c .length) l))) f) (ltb-false 127 (c .length))
+
+-- a part that is one symbol is the symbol at its start
+whole-part : (mode : ℕ) (part : List ℕ) → known mode ≡ true → length part ≡ radioOf mode .size → symbolAt mode part 0 ≡ symbolOf (radioOf mode) part
+unfolding symbolAt
+whole-part mode part k e =
+    rw (k, le-ltb (length part) (0 + radioOf mode .size) (omega arith))
+    (ap (λ (l : List ℕ). symbolOf (radioOf mode) l) (take-all (radioOf mode .size) part (omega arith)))
+
+-- the ways of `push`
+module _ (c : Receiver) (part : List ℕ) where
+  pub push-forged : forged c ≡ true → step FORGED c ≡ pushOf c part
+  unfolding pushOf
+  push-forged f = rw f
+
+  module _ (f : forged c ≡ false) where
+    pub push-ended : (c .ended ≡ MORE → ⊥) → step ENDED c ≡ pushOf c part
+    unfolding pushOf
+    push-ended m = rw (f, ne-eqb (c .ended) MORE m)
+
+    module _ (o : c .ended ≡ MORE) (size : ℕ) (e : size ≡ sizeAt (c .mode)) where
+      size-is : size ≡ radioOf (c .mode) .size
+      size-is = e ∙ size-known (c .mode) (passed-known c f (inl o))
+
+      pub push-part : (length part ≡ size → ⊥) → step BADPART c ≡ pushOf c part
+      unfolding pushOf
+      push-part n = rw (f, eq-eqb (c .ended) MORE o, ← size-is, ne-eqb (length part) size n)
+
+      pub push-symbol : length part ≡ size → tookSymbol c (symbolAt (c .mode) part 0) ≡ pushOf c part
+      unfolding pushOf
+      push-symbol l =
+          let w : length part ≡ radioOf (c .mode) .size = l ∙ size-is in
+          rw (f, eq-eqb (c .ended) MORE o, eq-eqb (length part) (radioOf (c .mode) .size) w)
+          (ap (tookSymbol c) (whole-part (c .mode) part (passed-known c f (inl o)) w))
+
+-- the way of `follow`
+pub took : (c : Receiver) (x : Symbol) (h next : Hand) (octets : List ℕ) → h ≡ handOf c → next ≡ followed (c .mode) h x → octets ≡ keptAt (c .mode) next (c .octets)
+    → step (next .number) (held (c .mode) next octets) ≡ tookSymbol c x
+took c x h next octets eh en eo =
+    ap (λ (l : List ℕ). step (next .number) (held (c .mode) next l)) eo
+    ∙ ap (λ (z : Hand). withHand c z) (en ∙ ap (λ (z : Hand). followed (c .mode) z x) eh)
+
+-- the ways of `finish`
+module _ (c : Receiver) where
+  pub finish-forged : forged c ≡ true → step FORGED c ≡ finishOf c
+  unfolding finishOf
+  finish-forged f = rw f
+
+  module _ (f : forged c ≡ false) where
+    pub finish-ended : (c .ended ≡ MORE → ⊥) → step ENDED c ≡ finishOf c
+    unfolding finishOf
+    finish-ended m = rw (f, ne-eqb (c .ended) MORE m)
+
+    pub finish-open : c .ended ≡ MORE → step RUNOUT (endedWith RUNOUT c) ≡ finishOf c
+    unfolding finishOf
+    finish-open o = rw (f, eq-eqb (c .ended) MORE o)
+
+-- the ways of `tell`
+module _ (c : Receiver) (room : ℕ) where
+  pub takes-forged : forged c ≡ true → refused FORGED 0 ≡ takes c room
+  unfolding takes
+  takes-forged f = rw f
+
+  module _ (f : forged c ≡ false) where
+    pub takes-open : c .ended ≡ MORE → refused NOTENDED 0 ≡ takes c room
+    unfolding takes
+    takes-open o = rw (f, eq-eqb (c .ended) MORE o)
+
+    pub takes-refused : (c .ended ≡ MORE → ⊥) → (c .ended ≡ DONE → ⊥) → refused (c .ended) (c .taken) ≡ takes c room
+    unfolding takes
+    takes-refused m d = rw (f, ne-eqb (c .ended) MORE m, ne-eqb (c .ended) DONE d)
+
+    module _ (d : c .ended ≡ DONE) (l : length (c .octets) ≡ 127) where
+      -- the report is as long as the record says
+      report-long : length (take (c .length) (c .octets)) ≡ c .length
+      report-long = length-take-le (c .length) (c .octets) (omega (arith, passed-length c f (inr d)))
+
+      takes-well : takes c room ≡ roomFor room (done (c .taken) (take (c .length) (c .octets)) (c .count))
+      unfolding takes
+      takes-well = rw (f, d)
+
+      pub takes-short : room < c .length → refused NOROOM (c .taken) ≡ takes c room
+      unfolding roomFor
+      takes-short s = sym (takes-well ∙ rw (report-long, lt-ltb room (c .length) s))
+
+      pub takes-done : c .length ≤ room → done (c .taken) (take (c .length) (c .octets)) (c .count) ≡ takes c room
+      unfolding roomFor
+      takes-done s = sym (takes-well ∙ rw (report-long, le-ltb room (c .length) s))
+
+      pub tells-done : c .length ≤ room → record { number = DONE; place = c .taken; n = c .length; count = c .count } ≡ told (takes c room)
+      unfolding told
+      tells-done s =
+          ap (λ (i : ℕ). record { number = DONE; place = c .taken; n = i; count = c .count }) (sym report-long) ∙ ap told (takes-done s)
+
+-- the way of `take`: nothing is stored but a report, for which there is room
+module _ (c : Receiver) (buffer : List ℕ) (l : length (c .octets) ≡ 127) where
+  abbrev Stores : Answer → Type 0
+  Stores a = storedIn (told a .n) (c .octets) buffer ≡ left a buffer
+
+  stores-none : (x place : ℕ) → Stores (refused x place)
+  unfolding told left
+  stores-none x place = stored-none (c .octets) buffer l
+
+  stores-report : c .length ≤ 127 → c .length ≤ length buffer → Stores (done (c .taken) (take (c .length) (c .octets)) (c .count))
+  unfolding told left
+  stores-report m s =
+      ap (λ (i : ℕ). storedIn i (c .octets) buffer) (length-take-le (c .length) (c .octets) (omega arith)) ∙ stored (c .length) (c .octets) buffer m l s
+
+  stores : Stores (takes c (length buffer))
+  stores =
+      let room = length buffer in
+      by-test (forged c) (λ f. rw (← takes-forged c room f) (stores-none FORGED 0))
+      (λ f. by-test (isOpen c) (λ o. rw (← takes-open c room f (eqb-true (c .ended) MORE o)) (stores-none NOTENDED 0))
+      (λ o. by-test (endedWell c)
+      (λ w. let d = eqb-true (c .ended) DONE w in
+      by-test (ltb room (c .length)) (λ s. rw (← takes-short c room f d l (ltb-true room (c .length) s)) (stores-none NOROOM (c .taken)))
+      (λ s. rw (← takes-done c room f d l (ltb-false room (c .length) s)) (stores-report (passed-length c f (inr d)) (ltb-false room (c .length) s))))
+      (λ w. rw (← takes-refused c room f (eqb-false (c .ended) MORE o) (eqb-false (c .ended) DONE w)) (stores-none (c .ended) (c .taken)))))
+
+  pub takes-stored : (answer : Reading) → answer ≡ told (takes c (length buffer)) → (out : List ℕ) → out ≡ storedIn (answer .n) (c .octets) buffer
+      → outcome answer out ≡ takeOf c buffer
+  takes-stored answer e out s =
+      ap₂ outcome e (s ∙ ap (λ (a : Reading). storedIn (a .n) (c .octets) buffer) e ∙ stores)
