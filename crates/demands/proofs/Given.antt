@@ -7,7 +7,7 @@ use mathlib.Core.Logic.{_⊎_, inl, inr, ⊎-elim}
 use Prim.Native.Nat.{ℕ, _+_, _*_}
 use lib.ListN.{length, take}
 use lib.Dec.{eqb, ltb}
-use borrow.Author.Tests.{eq-eqb, eqb-true, not-false}
+use borrow.Author.Tests.{eqb-true, eqb-false, not-false}
 use Rattle.codes.specs.Numbers.{DONE, BADMODE, NOROOM, RUNOUT, NOCHIP, LOST, PREAMBLE, BADSTART, RESERVED, ENDED, BADPART, NOTENDED, MORE, FORGED}
 use Rattle.codes.specs.Chips.{pick, among, bad}
 use Rattle.codes.specs.Radio.{Radio, known, radioOf}
@@ -145,23 +145,23 @@ finish-numbers c = finish-ways c (λ (s : Step). among (s .number) (RUNOUT ∷ E
 
 -- what is true of take's ways
 pub takes-ways : (c : Receiver) (room : ℕ) (P : Answer → Type 0) → (forged c ≡ true → P (refused FORGED 0)) → P (refused NOTENDED 0)
-    → P (refused NOROOM (c .taken)) → P (done (c .taken) (take (c .length) (c .octets)) (c .count)) → P (refused (c .ended) (c .taken)) → P (takes c room)
+    → P (refused NOROOM (c .taken)) → P (done (c .taken) (take (c .length) (c .octets)) (c .count))
+    → ((c .ended ≡ MORE → ⊥) → (c .ended ≡ DONE → ⊥) → P (refused (c .ended) (c .taken))) → P (takes c room)
 unfolding takes roomFor
 takes-ways c room P f o n d e =
     by-pick P (forged c) _ _ f
     (λ _. by-pick P (isOpen c) _ _ (λ _. o)
-    (λ _. by-pick P (endedWell c) _ _ (λ _. by-pick P (ltb room _) _ _ (λ _. n) (λ _. d)) (λ _. e)))
+    (λ m. by-pick P (endedWell c) _ _ (λ _. by-pick P (ltb room _) _ _ (λ _. n) (λ _. d)) (λ w. e (eqb-false (c .ended) MORE m) (eqb-false (c .ended) DONE w))))
 
--- Take gives back one of these, or the number that the record ended with.
-pub take-numbers : (c : Receiver) (buffer : List ℕ) → among (takeOf c buffer .answer .number) (c .ended ∷ DONE ∷ NOROOM ∷ NOTENDED ∷ FORGED ∷ []) ≡ true
+-- Take gives back one of these, or the number of the refusal that ended the record.
+pub take-numbers : (c : Receiver) (buffer : List ℕ)
+    → (among (takeOf c buffer .answer .number) (DONE ∷ NOROOM ∷ NOTENDED ∷ FORGED ∷ []) ≡ true)
+    ⊎ ((takeOf c buffer .answer .number ≡ c .ended) × (c .ended ≡ MORE → ⊥) × (c .ended ≡ DONE → ⊥))
 unfolding told
-take-numbers c buffer = takes-ways c (length buffer) P (λ _. later FORGED refl) (later NOTENDED refl) (later NOROOM refl) (later DONE refl) (rw (eq-eqb (c .ended) (c .ended) refl))
+take-numbers c buffer = takes-ways c (length buffer) P (λ _. inl refl) (inl refl) (inl refl) (inl refl) (λ m d. inr (refl, m, d))
   where
     P : Answer → Type 0
-    P a = among (told a .number) (c .ended ∷ DONE ∷ NOROOM ∷ NOTENDED ∷ FORGED ∷ []) ≡ true
-
-    later : (x : ℕ) → among x (DONE ∷ NOROOM ∷ NOTENDED ∷ FORGED ∷ []) ≡ true → among x (c .ended ∷ DONE ∷ NOROOM ∷ NOTENDED ∷ FORGED ∷ []) ≡ true
-    later x t = by-pick (λ b. b ≡ true) (eqb x (c .ended)) _ _ (λ _. refl) (λ _. t)
+    P a = (among (told a .number) (DONE ∷ NOROOM ∷ NOTENDED ∷ FORGED ∷ []) ≡ true) ⊎ ((told a .number ≡ c .ended) × (c .ended ≡ MORE → ⊥) × (c .ended ≡ DONE → ⊥))
 
 -- ---- what a refusal leaves
 

@@ -88,7 +88,7 @@ holds-none c (ended t) e = not-ending (c .ended) FORGED t refl e
 tells-none : (c : Receiver) → Honest c → (room : ℕ) → told (takes c room) .number ≡ FORGED → ⊥
 unfolding told
 tells-none c H room =
-    takes-ways c room (λ (a : Answer). told a .number ≡ FORGED → ⊥) (λ t e. not-both (forged c) t (passes c H)) (λ e. omega (arith, e)) (λ e. omega (arith, e)) (λ e. omega (arith, e)) (holds-none c H)
+    takes-ways c room (λ (a : Answer). told a .number ≡ FORGED → ⊥) (λ t e. not-both (forged c) t (passes c H)) (λ e. omega (arith, e)) (λ e. omega (arith, e)) (λ e. omega (arith, e)) (λ m d. holds-none c H)
 
 -- and answers no 34
 answers : (c : Receiver) → Honest c → (x : Call) → called c x .number ≡ FORGED → ⊥

@@ -6,18 +6,24 @@ ghost use Rattle.frame.specs.Outcome.{outcome};
 ghost use Rattle.reader.specs.Read.{told};
 ghost use Rattle.receiver.specs.Record.{step, fresh, startOf, forged, handOf, tookSymbol, pushOf, finishOf, takes, takeOf, receivedOf};
 
-// The mode as given to start; 13 while open, 0 ended well, else the number of the refusal; symbols taken, which is the number of the next
-// symbol and, where it ended, the place; n once the length octet is read, 0 before; chips repaired; the encoded bit before the next
-// one (mode 0); the octet in hand; the octets of the report.
+// The record.
 #[repr(C)]
 pub struct Receiver {
+    // as given to start
     pub mode: u32,
+    // 13 while open, 0 ended well, else the number of the refusal
     pub ended: u32,
+    // symbols taken: the number of the next symbol; where it ended, the place
     pub taken: u32,
+    // n once the length octet is read, 0 before
     pub length: u32,
+    // chips repaired so far
     pub count: u32,
+    // the last symbol's value: in mode 0 the encoded bit before the next one
     pub last: u32,
+    // the octet in hand
     pub octet: u32,
+    // the report's octets so far
     pub octets: [u8; 127],
 }
 
@@ -103,6 +109,7 @@ impl Receiver {
         if codes::limit_of(self.mode) as u64 * (self.taken as u64) < self.count as u64 {
             return true;
         }
+        // six octets stand before the report
         let total = (6 + self.length as usize) * per;
         if self.ended == codes::MORE {
             return total <= self.taken as usize;

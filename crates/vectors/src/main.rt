@@ -1,6 +1,6 @@
 // Runs the writer, the reader and the stepping receiver on chosen cases and prints what they answer, to be compared with the file
 // stdout. The chip strings there were made of tables 21 and 24 of the draft standard, and the other lines were worked out from the
-// rules of document 01: neither by this code. What is printed isn't proved but compared; the proofs show that no place outside a
+// rules of document 01 (what a receiver holds between symbols, which it doesn't say, from the definition): neither by this code. What is printed isn't proved but compared; the proofs show that no place outside a
 // buffer is used and that each loop ends. They go through because a place is tested before it is used, and because the writer
 // promises a count that fits the buffer (`chips-fit`). A case that didn't fit would print no line, and the comparison would show that.
 ghost use mathlib.Core.Path.{_≡_};

@@ -306,11 +306,13 @@ fn edges(mode: u32, length: u8, part: &[u8]) {
 }
 
 // Records with a number that no frame has, and records ended by a refusal, which may hold anything. Cut to 8 bits, 256 and 257 would
-// be modes 0 and 1; with length 4294967295 the total, cut to 32 bits, would be the symbols of five octets.
+// be modes 0 and 1, and a length of 256 would be 0; with length 4294967295 the total, cut to 32 bits, would be the symbols of five octets;
+// and a record 65536 symbols past its end would be complete. A record of no mode with nothing taken fails no test but that of the mode.
 fn strange(mode: u32, part: &[u8]) {
     let open = codes::MORE;
     let well = codes::DONE;
     let five = symbols_in(mode, 11) as u32 - 1;
+    let far = five + 65537;
     let long = symbols_in(mode, 134) as u32 - 1;
     let wrapped = symbols_in(mode, 5) as u32 - 1;
     both(b"no such mode", 2, five, 5, 0, part);
@@ -319,6 +321,9 @@ fn strange(mode: u32, part: &[u8]) {
     both(b"no such mode", MOST, five, 5, 0, part);
     both(b"length 128", mode, long, 128, 0, part);
     both(b"length wraps", mode, wrapped, MOST, 0, part);
+    probe(b"no such mode", made_up(2, well, 0, 0, 0), part, 127);
+    probe(b"length 256", made_up(mode, open, 0, 256, 0), part, 127);
+    probe(b"far", made_up(mode, well, far, 5, 0), part, 127);
     probe(b"most", made_up(mode, open, MOST, 127, MOST), part, 127);
     probe(b"most", made_up(mode, well, MOST, 127, MOST), part, 127);
     probe(b"refused", made_up(9, 77, MOST, MOST, MOST), part, 127);
@@ -326,12 +331,12 @@ fn strange(mode: u32, part: &[u8]) {
     probe(b"refused", made_up(9, 34, MOST, MOST, MOST), part, 127);
 }
 
-// A record that no test refuses, at the last symbol of an octet, with a symbol before it and an octet in hand that no symbol brings: of
-// such numbers the lowest bits count.
+// A record that no test refuses, at the last symbol of an octet, with a symbol before it, odd or even, and an octet in hand that no
+// symbol brings: of such numbers the lowest bits count.
 fn hand(mode: u32, octet: u8, length: u32, part: &[u8]) {
     let taken = symbols_in(mode, 1 + octet as u32) as u32 - 1;
     let mut record = made_up(mode, codes::MORE, taken, length, 0);
-    record.last = MOST;
+    record.last = MOST - octet as u32;
     record.octet = MOST;
     fates(b"strange in hand", record, part);
 }
