@@ -18,5 +18,5 @@ test:
 # proves what has changed and links the program; quiet unless it fails
 programs:
 	@mkdir -p build
-	@[ -f target/bin/send ] || echo 'proving codes, frame and send: half a minute the first time'
+	@[ -f target/bin/send ] || echo 'proving codes, frame and send: under a minute the first time'
 	@rt check send >build/programs.log 2>&1 || { tail -n 20 build/programs.log >&2; exit 1; }
