@@ -35,15 +35,15 @@ Counts c ws = counted c (inOrder c ws) ≡ inOrder c ws
 
 -- a record that has ended: nothing more is called
 module _ (c : Receiver) (m : c .ended ≡ MORE → ⊥) where
-  order-ended : (ws : List (List ℕ)) → after c (inOrder c ws) ≡ c
-  unfolding inOrder after
-  order-ended [] = rw (ne-eqb (c .ended) MORE m)
-  order-ended (w ∷ ws) = rw (ne-eqb (c .ended) MORE m)
-
   counts-ended : (ws : List (List ℕ)) → Counts c ws
   unfolding inOrder counted
   counts-ended [] = rw (ne-eqb (c .ended) MORE m)
   counts-ended (w ∷ ws) = rw (ne-eqb (c .ended) MORE m)
+
+  order-ended : (ws : List (List ℕ)) → after c (inOrder c ws) ≡ c
+  unfolding inOrder after
+  order-ended [] = rw (ne-eqb (c .ended) MORE m)
+  order-ended (w ∷ ws) = rw (ne-eqb (c .ended) MORE m)
 
 -- an open one
 module _ (c : Receiver) (o : c .ended ≡ MORE) (f : forged c ≡ false) (ws : List (List ℕ)) (s : ℕ) where

@@ -6,7 +6,7 @@ ghost use Rattle.frame.specs.Outcome.{outcome};
 ghost use Rattle.reader.specs.Read.{told};
 ghost use Rattle.receiver.specs.Record.{step, fresh, startOf, forged, handOf, tookSymbol, pushOf, finishOf, takes, takeOf, receivedOf};
 
-// The record.
+// What a receiver is between two calls, in the order of the C interface.
 #[repr(C)]
 pub struct Receiver {
     // as given to start
