@@ -1,22 +1,97 @@
-# make run    a report to a raw capture: MODE=0 or 1, REPORT=file, CAPTURE=file
-# make test   the gate: the programs run from outside, then `rt ci`
-.PHONY: run test programs
+# make run      a report to a raw capture, the bench program on the captures, and the example gateway
+#               CAPTURE=file: the bench program on your own capture and nothing else
+# make send     a report to a raw capture: MODE=0 or 1, REPORT=file, OUT=file
+# make test     the gate: tests from outside, then `rt ci`; SEED=.. and CASES=.. for the comparison
+# make lib      build/liblernazhup.a, build/lernazhup.h and build/lernazhup.pc, for C
+# make install  the same under PREFIX (DESTDIR before it, where given)
+# make speed    times against C, stack and sizes
+.PHONY: run send test lib install speed programs outside
 
 MODE = 1
 REPORT = host/report
-CAPTURE = build/capture.raw
+OUT = build/capture.raw
+CAPTURE =
+PREFIX = /usr/local
+SEED =
+CASES =
 
+CC = host/cc
+CFLAGS = -std=c99 -O2 -Wall -Wextra -pedantic -Werror -Ibuild
+ARCHIVE = build/liblernazhup.a
+# what the archive is made of
+PROVED := $(shell find crates/codes crates/frame crates/reader crates/receiver crates/gateway -name '*.rt' -o -name '*.antt')
+COMPARED = compare cases check facts lent records reference usual best copying
+
+ifeq ($(CAPTURE),)
+run: programs lib build/example
+	@host/run "$(MODE)" "$(REPORT)" "$(OUT)"
+	@host/bench captures/*.raw
+	@host/exec build/example
+else
 run: programs
-	@host/run "$(MODE)" "$(REPORT)" "$(CAPTURE)"
+	@host/bench "$(CAPTURE)"
+endif
+
+send: programs
+	@host/run "$(MODE)" "$(REPORT)" "$(OUT)"
 
 test:
 	@host/kit
-	@$(MAKE) --no-print-directory programs
-	@host/send-test
+	@$(MAKE) --no-print-directory programs lib
+	@$(MAKE) --no-print-directory outside
 	@rt ci
 
-# proves what has changed and links the program; quiet unless it fails
+# every test from outside; each prints a line of counts, and fails where something is wrong
+outside: build/fields build/compare build/stack build/example
+	@host/header-test
+	@host/install-test
+	@host/exec build/fields
+	@host/send-test
+	@host/bench-test
+	@host/example-test
+	@host/exec build/stack
+	@host/sizes
+	@host/compare-test '$(SEED)' '$(CASES)'
+	@host/faults-test
+
+speed: lib build/speed build/stack
+	@host/exec build/speed
+	@host/exec build/stack
+	@host/sizes
+
+# proves what has changed and links the programs; quiet unless it fails
 programs:
 	@mkdir -p build
-	@[ -f target/bin/send ] || echo 'proving codes, frame and send: under a minute the first time'
-	@rt check send >build/programs.log 2>&1 || { tail -n 20 build/programs.log >&2; exit 1; }
+	@[ -f target/bin/bench ] || echo 'proving the programs and what they stand on: a minute or two the first time'
+	@rt check send bench >build/programs.log 2>&1 || { tail -n 20 build/programs.log >&2; exit 1; }
+
+lib: $(ARCHIVE) build/lernazhup.h build/lernazhup.pc
+
+# proved first; `rt ci` removes target/, hence the copy
+$(ARCHIVE): crates.txt $(PROVED)
+	@mkdir -p build
+	@rt staticlib gateway >build/lib.log 2>&1 || { tail -n 20 build/lib.log >&2; exit 1; }
+	@cp target/staticlib/libgateway.a $@
+
+build/lernazhup.h: include/lernazhup.h
+	@mkdir -p build
+	@cp $< $@
+
+build/lernazhup.pc: host/pkg-config-file
+	@mkdir -p build
+	@host/pkg-config-file '$(CURDIR)/build' '$${prefix}' '$${prefix}' >$@
+
+install: lib
+	install -d '$(DESTDIR)$(PREFIX)/include' '$(DESTDIR)$(PREFIX)/lib/pkgconfig'
+	install -m 644 build/lernazhup.h '$(DESTDIR)$(PREFIX)/include'
+	install -m 644 $(ARCHIVE) '$(DESTDIR)$(PREFIX)/lib'
+	host/pkg-config-file '$(PREFIX)' '$${prefix}/lib' '$${prefix}/include' >'$(DESTDIR)$(PREFIX)/lib/pkgconfig/lernazhup.pc'
+
+build/example build/fields build/stack: build/%: host/%.c build/lernazhup.h $(ARCHIVE)
+	@$(CC) $(CFLAGS) $< $(ARCHIVE) -o $@
+
+build/speed: $(addprefix host/,speed.c usual.c best.c copying.c handing.c baseline.h) build/lernazhup.h $(ARCHIVE)
+	@$(CC) $(CFLAGS) $(filter %.c,$^) $(ARCHIVE) -o $@
+
+build/compare: $(COMPARED:%=host/%.c) $(wildcard host/*.h) build/lernazhup.h $(ARCHIVE)
+	@$(CC) $(CFLAGS) -g $$(host/sanitizers) $(filter %.c,$^) $(ARCHIVE) -o $@

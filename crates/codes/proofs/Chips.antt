@@ -5,7 +5,7 @@ use mathlib.Core.List.{List, [], _∷_, _++_}
 use Prim.Native.Nat.{ℕ, zero, suc, _+_, _≤_, _<_}
 use native.Mathlib.Numerals.{add-one}
 use native.Mathlib.Omega.{arith}
-use lib.ListN.{length, getD, take, length-take}
+use lib.ListN.{length, getD, take, drop, length-take}
 use lib.Seq.{take-suc, length-take-le, take-all}
 use lib.Bits.{bitXor}
 use lib.Dec.{eqb, ltb}
@@ -76,6 +76,19 @@ pub bad-append : (xs ys : List ℕ) → bad (xs ++ ys) ≡ pick (bad xs) true (b
 unfolding bad
 bad-append [] ys = refl
 bad-append (x ∷ xs) ys = by-test (ltb 1 x) (λ a. rw a) (λ a. rw a (bad-append xs ys))
+
+-- a part of chips is of chips
+pub bad-take : (n : ℕ) (xs : List ℕ) → bad xs ≡ false → bad (take n xs) ≡ false
+unfolding bad
+bad-take zero xs b = refl
+bad-take (suc n) [] b = refl
+bad-take (suc n) (x ∷ xs) b = by-test (ltb 1 x) (λ a. not-both true refl (rw a at b)) (λ a. rw a (bad-take n xs (rw a at b)))
+
+pub bad-drop : (n : ℕ) (xs : List ℕ) → bad xs ≡ false → bad (drop n xs) ≡ false
+unfolding bad
+bad-drop zero xs b = b
+bad-drop (suc n) [] b = refl
+bad-drop (suc n) (x ∷ xs) b = by-test (ltb 1 x) (λ a. not-both true refl (rw a at b)) (λ a. bad-drop n xs (rw a at b))
 
 -- none is bad: each is 0 or 1
 pub chip-at : (xs : List ℕ) → bad xs ≡ false → (k : ℕ) → getD xs k 0 ≤ 1

@@ -1,23 +1,23 @@
 -- What the code computes is what `Symbol` says: the nearest word within the limit is the one word within it. Once over the
 -- radio; the last laws are at a mode, for `read_symbol`. Assumes nothing.
-use mathlib.Core.Path.{_≡_, sym, _∙_}
+use mathlib.Core.Path.{_≡_, sym, ap, _∙_}
 use mathlib.Core.Bool.{true, false}
 use mathlib.Core.List.{List}
 use Prim.Native.Nat.{ℕ, _+_, _≤_, _<_}
 use native.Mathlib.Omega.{arith}
 use lib.ListN.{length, getD, take, drop, length-take, length-drop}
 use lib.Seq.{getD-take, getD-drop}
-use lib.Dec.{ltb, leb}
-use borrow.Author.Tests.{le-ltb, leb-true, leb-false, ltb-false}
+use lib.Dec.{eqb, ltb, leb}
+use borrow.Author.Tests.{leb-true, leb-false, ltb-false, eqb-true}
 use Rattle.codes.specs.declared.Nearest.{Nearest}
-use Rattle.codes.specs.Numbers.{BADMODE, RUNOUT, NOCHIP}
-use Rattle.codes.specs.Chips.{distance, bad}
+use Rattle.codes.specs.Numbers.{RUNOUT}
+use Rattle.codes.specs.Chips.{pick, distance, bad}
 use Rattle.codes.specs.Radio.{Radio, word, Sound, known, radioOf}
 use Rattle.codes.specs.Symbol.{refused, symbolOf, symbolAt}
-use Rattle.codes.specs.Lent.{sizeAt, tableOf, tableAt, badIn}
-use Rattle.codes.specs.Matching.{from, sumTo, nearestOf, judged, matchIn, matchedAt}
+use Rattle.codes.specs.Lent.{tableOf, tableAt}
+use Rattle.codes.specs.Matching.{from, sumTo, nearestOf, judged, matchIn, lentTo, matchedAt}
 use Rattle.codes.proofs.Tests.{by-test}
-use Rattle.codes.proofs.Modes.{each-row, sized, sizeless}
+use Rattle.codes.proofs.Modes.{each-row}
 use Rattle.codes.proofs.Chips.{xor-cong, xor-distance}
 use Rattle.codes.proofs.Unique.{symbol-of, lost-of, nochip-of}
 use Rattle.codes.proofs.Rows.{chip-of}
@@ -64,42 +64,29 @@ module _ (r : Radio) (S : Sound r) (small : r .size < 256) (low : r .limit < 255
 small : (mode : ℕ) → (radioOf mode .size < 256) × (radioOf mode .limit < 255)
 small = each-row (λ r. (r .size < 256) × (r .limit < 255)) (omega arith, omega arith) (omega arith, omega arith)
 
--- At any mode and place, with the mode's own table lent and no byte that is no chip, matching is reading the symbol.
-pub matched-symbol : (mode : ℕ) (table chips : List ℕ) (at : ℕ) → table ≡ tableAt mode → bad (take (radioOf mode .size) (drop at chips)) ≡ false
-    → matchedAt mode table chips at ≡ symbolAt mode chips at
-unfolding matchedAt symbolAt matchIn
-matched-symbol mode table chips at t b =
+-- Matching with the mode's own table is reading the symbol.
+pub table-symbol : (mode : ℕ) → known mode ≡ true → (chips : List ℕ) (at : ℕ)
+    → matchIn (radioOf mode .size) (length (radioOf mode .words)) (radioOf mode .limit) (tableAt mode) chips at ≡ symbolAt mode chips at
+unfolding matchIn symbolAt
+table-symbol mode k chips at =
+    rw (k, table-known mode k)
+    (by-test (ltb (length chips) (at + r .size))
+    (λ o. rw o)
+    (λ o. rw o
+    (by-test (bad (take (r .size) (drop at chips)))
+    (λ b. rw b (sym (nochip-of r _ b)))
+    (λ b. rw b (judged-symbol r (sound mode) (small mode .0) (small mode .1) chips at (ltb-false _ _ o) b)))))
+  where
+    r : Radio
+    r = radioOf mode
+
+-- At any mode and place, with the mode's own table lent, so is `matchedAt`.
+pub matched-symbol : (mode : ℕ) (table chips : List ℕ) (at : ℕ) → table ≡ tableAt mode → matchedAt mode table chips at ≡ symbolAt mode chips at
+unfolding matchedAt symbolAt lentTo
+matched-symbol mode table chips at t =
     by-test (known mode)
-    (λ k. by-test (ltb (length chips) (at + radioOf mode .size))
-    (λ o. rw (k, o))
-    (λ o. rw (k, o, t, table-known mode k)
-    (judged-symbol (radioOf mode) (sound mode) (small mode .0) (small mode .1) chips at (ltb-false _ _ o) b)))
+    (λ k. rw (k, own-table) (table-symbol mode k chips at ∙ rw k))
     (λ k. rw k)
-
--- where a whole symbol is left, the test of its bytes is that of its window
-pub bad-window : (size : ℕ) (chips : List ℕ) (at : ℕ) → at + size ≤ length chips → badIn size chips at ≡ bad (take size (drop at chips))
-unfolding badIn
-bad-window size chips at f = rw (le-ltb (length chips) (at + size) f)
-
--- the ways of `read_symbol`, at the size that the code found
-module _ (mode : ℕ) (chips : List ℕ) (at size : ℕ) (e : size ≡ sizeAt mode) where
-  pub no-radio : size ≡ 0 → refused BADMODE ≡ symbolAt mode chips at
-  unfolding symbolAt
-  no-radio z = rw (sizeless mode size e z)
-
-  module _ (z : size ≡ 0 → ⊥) where
-    is : size ≡ radioOf mode .size
-    is = sized mode size e z .1
-
-    pub too-few : ltb (length chips) (at + size) ≡ true → refused RUNOUT ≡ symbolAt mode chips at
-    unfolding symbolAt
-    too-few t = rw (sized mode size e z .0, rw is at t)
-
-    pub no-chip : at + size ≤ length chips → bad (take size (drop at chips)) ≡ true → refused NOCHIP ≡ symbolAt mode chips at
-    unfolding symbolAt
-    no-chip f b =
-        rw (sized mode size e z .0, rw is at (le-ltb (length chips) (at + size) f))
-        (sym (nochip-of (radioOf mode) _ (rw is at b)))
-
-    pub all-chips : (table : List ℕ) → table ≡ tableAt mode → bad (take size (drop at chips)) ≡ false → matchedAt mode table chips at ≡ symbolAt mode chips at
-    all-chips table t b = matched-symbol mode table chips at t (rw is at b)
+  where
+    own-table : lentTo mode table ≡ tableAt mode
+    own-table = by-test (eqb mode 0) (λ z. rw z (ap tableAt (sym (eqb-true mode 0 z)))) (λ z. rw z t)

@@ -1,11 +1,13 @@
 -- Tables of a mode's words. Assumes nothing.
 use mathlib.Core.Path.{_≡_, refl}
-use mathlib.Core.Bool.{true}
+use mathlib.Core.Bool.{true, false}
 use Prim.Native.Nat.{ℕ, _+_, _*_, _≤_, _<_}
 use native.Mathlib.Omega.{arith}
 use lib.ListN.{length, getD, take, drop}
 use Rattle.codes.specs.Radio.{bpskWords, oqpskWord, oqpskWords, turnedWords, turns, turned, oddInverted, known, radioOf, word}
 use Rattle.codes.specs.Lent.{joined, tableOf, tableAt}
+use Rattle.codes.specs.Chips.{bad}
+use Rattle.codes.proofs.Chips.{bad-take, bad-drop}
 use Rattle.codes.proofs.Rows.{chip-of, row-of}
 use Rattle.codes.proofs.Tests.{by-test}
 use Rattle.codes.proofs.Modes.{each-row}
@@ -38,3 +40,8 @@ table-row mode k v h = rw (table-known mode k) (row-of (radioOf mode .size) (rad
 pub row-fits : (mode v : ℕ) → v < length (radioOf mode .words) → v * radioOf mode .size + radioOf mode .size ≤ 512
 unfolding bpskWords oqpskWords turnedWords turns
 row-fits mode v = each-row (λ r. v < length (r .words) → v * r .size + r .size ≤ 512) (λ h. omega arith) (λ h. omega arith) mode
+
+-- a part of mode 0's table is of chips
+pub bits-chips : (n row : ℕ) → bad (take n (drop row (tableAt 0))) ≡ false
+unfolding tableAt tableOf joined bpskWords bad
+bits-chips n row = bad-take n (drop row (tableAt 0)) (bad-drop row (tableAt 0) refl)

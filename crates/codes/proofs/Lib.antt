@@ -3,12 +3,14 @@ pub mod Tests
 pub mod Modes
 pub mod Copy
 pub mod Chips
+pub mod Packed
 pub mod First
 pub mod Unique
 pub mod Rows
 pub mod Least
 pub mod Facts
 pub mod Lent
+pub mod Bits
 pub mod Rule
 pub mod Equal
 pub mod Settled

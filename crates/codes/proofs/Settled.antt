@@ -13,8 +13,6 @@ use Rattle.codes.proofs.limit_of.Kinds as limit-of-kinds
 use Rattle.codes.proofs.limit_of.Reads as limit-of-promise
 use Rattle.codes.proofs.tables.table.Kinds as table-kinds
 use Rattle.codes.proofs.tables.table.Reads as table-promise
-use Rattle.codes.proofs.bad_symbol.Kinds as bad-symbol-kinds
-use Rattle.codes.proofs.bad_symbol.Reads as bad-symbol-promise
 use Rattle.codes.proofs.read_symbol.Kinds as read-symbol-kinds
 use Rattle.codes.proofs.read_symbol.Reads as read-symbol-promise
 use Rattle.codes.proofs.matched.Kinds as matched-kinds
@@ -41,6 +39,3 @@ read-symbol-settled κs a p q s t = settled p q
 
 pub matched-settled : Settles 2 matched-kinds.ps matched-kinds.r matched-promise.Post
 matched-settled κs a p q s t = settled p q
-
-pub bad-symbol-settled : Settles 1 bad-symbol-kinds.ps bad-symbol-kinds.r bad-symbol-promise.Post
-bad-symbol-settled κs a p q s t = settled p q

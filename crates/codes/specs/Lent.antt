@@ -1,11 +1,9 @@
--- What is given to whoever reads or writes many symbols: the size of a symbol, the accepted distance, the words in one
--- table to lend, and a test of a symbol's bytes.
-use Prim.Native.Nat.{ℕ, _+_, _-_}
-use mathlib.Core.Bool.{Bool, false}
+-- What is given to whoever reads or writes many symbols: the size of a symbol, the accepted distance, and the words in
+-- one table to lend.
+use Prim.Native.Nat.{ℕ, _-_}
 use mathlib.Core.List.{List, [], _∷_, _++_}
-use lib.ListN.{length, take, drop, replicate}
-use lib.Dec.{ltb}
-use Rattle.codes.specs.Chips.{pick, bad}
+use lib.ListN.{length, replicate}
+use Rattle.codes.specs.Chips.{pick}
 use Rattle.codes.specs.Radio.{Radio, known, radioOf}
 
 -- chips in a symbol of a mode's radio; 0 where it has none
@@ -28,11 +26,3 @@ tableOf r = joined (r .words) ++ replicate (512 - length (joined (r .words))) 0
 -- the table of a mode's radio; zeros where it has none
 unfoldable pub tableAt : ℕ → List ℕ
 tableAt mode = pick (known mode) (tableOf (radioOf mode)) (replicate 512 0)
-
--- whether the whole symbol of so many chips that begins at a place has a byte above 1; false where fewer are left
-unfoldable pub badIn : ℕ → List ℕ → ℕ → Bool
-badIn size chips at = pick (ltb (length chips) (at + size)) false (bad (take size (drop at chips)))
-
--- a mode's symbol; false where the mode has no radio
-unfoldable pub badAt : ℕ → List ℕ → ℕ → Bool
-badAt mode chips at = pick (known mode) (badIn (radioOf mode .size) chips at) false

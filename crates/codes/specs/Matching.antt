@@ -1,16 +1,17 @@
--- Not to be believed: what the code computes, shown equal to `Symbol` in proofs/Equal.antt where the lent table is the radio's
--- and the bytes are chips. Windows are functions and sums recurse at their end, as the loops run.
+-- Not to be believed: what the code computes, shown equal to `Symbol` in proofs/Equal.antt where the lent table is the radio's.
+-- Windows are functions and sums recurse at their end, as the loops run.
 use Prim.Native.Nat.{ℕ, zero, suc, _+_, _*_, _%_, _^_}
 use mathlib.Core.List.{List}
-use lib.ListN.{length, getD}
+use lib.ListN.{length, getD, take, drop}
 use lib.Bits.{bitXor}
-use lib.Dec.{leb, ltb}
+use lib.Dec.{eqb, leb, ltb}
 use Rattle.codes.specs.declared.Symbol.{Symbol}
 use Rattle.codes.specs.declared.Nearest.{Nearest}
-use Rattle.codes.specs.Numbers.{DONE, BADMODE, RUNOUT, LOST}
-use Rattle.codes.specs.Chips.{pick}
+use Rattle.codes.specs.Numbers.{DONE, BADMODE, RUNOUT, NOCHIP, LOST}
+use Rattle.codes.specs.Chips.{pick, bad}
 use Rattle.codes.specs.Radio.{known, radioOf}
 use Rattle.codes.specs.Symbol.{refused}
+use Rattle.codes.specs.Lent.{tableAt}
 
 -- the window of a list that begins at a place: its k-th element
 abbrev pub from : List ℕ → ℕ → ℕ → ℕ
@@ -35,14 +36,18 @@ unfoldable pub judged : ℕ → Nearest → Symbol
 judged limit n =
     pick (leb (n .distance) limit) (record { number = DONE; value = n .value; distance = n .distance }) (refused LOST)
 
--- matching the chips from a place on with the words of a table
+-- matching the chips from a place on with the words of a table: 4, 5, 6
 unfoldable pub matchIn : ℕ → ℕ → ℕ → List ℕ → List ℕ → ℕ → Symbol
 matchIn size count limit table chips at =
     pick (ltb (length chips) (at + size)) (refused RUNOUT)
-    (judged limit (nearestOf (sumTo table chips at size) count))
+    (pick (bad (take size (drop at chips))) (refused NOCHIP) (judged limit (nearestOf (sumTo table chips at size) count)))
+
+-- the table that a mode is matched with: mode 0's is its own, whatever is lent
+unfoldable pub lentTo : ℕ → List ℕ → List ℕ
+lentTo mode table = pick (eqb mode 0) (tableAt 0) table
 
 unfoldable pub matchedAt : ℕ → List ℕ → List ℕ → ℕ → Symbol
 matchedAt mode table chips at =
     pick (known mode)
-    (matchIn (radioOf mode .size) (length (radioOf mode .words)) (radioOf mode .limit) table chips at)
+    (matchIn (radioOf mode .size) (length (radioOf mode .words)) (radioOf mode .limit) (lentTo mode table) chips at)
     (refused BADMODE)

@@ -1,16 +1,18 @@
-// The radios' code words and the reading of one symbol within a distance. One loop over words around a loop over chips serves
-// every radio. That at most one word lies within the limit is a law over word length, number of words and limit
-// (proofs/Unique.antt), so the nearest word, where it is within the limit, is that one (proofs/Equal.antt). Each radio only
-// instantiates it.
+// The radios' code words and the reading of one symbol within a distance. One loop over words serves every radio; how far a word
+// is, is a sum over its chips, which for fifteen of them has a form of its own (fifteen.rt). That at most one word lies within the
+// limit is a law over word length, number of words and limit (proofs/Unique.antt), so the nearest word, where it is within the
+// limit, is that one (proofs/Equal.antt). Each radio only instantiates it.
 ghost use mathlib.Core.Path.{_≡_};
-ghost use Prim.Native.Nat.{_+_, _*_, _≤_};
+ghost use mathlib.Core.Bool.{false};
+ghost use Prim.Native.Nat.{_+_, _*_, _≤_, _<_};
 ghost use lib.ListN.{length, take, drop};
 ghost use lib.Dec.{ltb};
 ghost use Rattle.codes.specs.Chips.{bad};
 ghost use Rattle.codes.specs.Symbol.{refused, symbolAt};
-ghost use Rattle.codes.specs.Lent.{sizeAt, limitAt, badIn, badAt};
+ghost use Rattle.codes.specs.Lent.{sizeAt, limitAt, tableAt};
 ghost use Rattle.codes.specs.Matching.{sumTo, nearestOf, judged, matchIn, matchedAt};
 
+mod fifteen;
 mod tables;
 
 pub use tables::table;
@@ -89,27 +91,23 @@ pub fn limit_of(mode: u32) -> u32
 pub fn read_symbol(mode: u32, chips: &[u8], at: usize) -> Symbol
     ensures { λ r. ⌜ r ≡ symbolAt mode (now (chips .entry)) at ⌝ }
 {
-    let size = size_of(mode);
-    if size == 0 {
-        return refusal(BADMODE);
+    if mode == 0 {
+        return read_bit(chips, at);
     }
-    if run_out(chips, at, size) {
-        return refusal(RUNOUT);
+    if mode == 1 {
+        let words = table(1);
+        return match_in(32, 16, 5, &words, chips, at);
     }
-    if bad_in(size, chips, at) {
-        return refusal(NOCHIP);
-    }
-    let words = table(mode);
-    matched(mode, &words, chips, at)
+    refusal(BADMODE)
 }
 
-// The symbol that the chips from a place on match, by a lent table of the mode's words: 1, 4 and 6 in that order. It takes
-// each byte for a chip: 5 is for the caller to test.
+// The same by a lent table of the mode's words, for whoever reads many symbols: mode 1's takes long to make. Mode 0's two words
+// are at hand, and its table is not looked at.
 pub fn matched(mode: u32, words: &[u8; 512], chips: &[u8], at: usize) -> Symbol
     ensures { λ r. ⌜ r ≡ matchedAt mode (now (words .entry)) (now (chips .entry)) at ⌝ }
 {
     if mode == 0 {
-        return match_in(15, 2, 6, words, chips, at);
+        return read_bit(chips, at);
     }
     if mode == 1 {
         return match_in(32, 16, 5, words, chips, at);
@@ -117,33 +115,16 @@ pub fn matched(mode: u32, words: &[u8; 512], chips: &[u8], at: usize) -> Symbol
     refusal(BADMODE)
 }
 
-// Whether the mode's whole symbol that begins at a place has a byte that is no chip; false where fewer chips are left than a
-// symbol has, and for a mode that has no radio.
-pub fn bad_symbol(mode: u32, chips: &[u8], at: usize) -> bool
-    ensures { λ r. ⌜ r ≡ badAt mode (now (chips .entry)) at ⌝ }
+// A symbol of mode 0. Its table is made of constants and read at constant places, so nothing of it is left in the machine code.
+fn read_bit(chips: &[u8], at: usize) -> Symbol
+    ensures { λ r. ⌜ r ≡ matchIn 15 2 6 (tableAt 0) (now (chips .entry)) at ⌝ }
 {
-    if mode == 0 {
-        return bad_in(15, chips, at);
-    }
-    if mode == 1 {
-        return bad_in(32, chips, at);
-    }
-    false
+    let words = table(0);
+    match_in(15, 2, 6, &words, chips, at)
 }
 
-// Whether the whole symbol of so many chips that begins at a place has a byte that is no chip; false where fewer are left.
-// `bad_symbol` calls it with constants, as `matched` calls `match_in`.
-fn bad_in(size: usize, chips: &[u8], at: usize) -> bool
-    ensures { λ r. ⌜ r ≡ badIn size (now (chips .entry)) at ⌝ }
-{
-    if run_out(chips, at, size) {
-        return false;
-    }
-    1 < highest(chips, at, size)
-}
-
-// Matching for any word length, number of words and limit. Called with constants, so that the chip loop has a constant
-// length.
+// Matching for any word length, number of words and limit: 4, 5 and 6 in that order. Called with constants, so that the loops
+// have constant lengths. Words of fifteen chips are mode 0's two.
 fn match_in(
     size: usize,
     count: u32,
@@ -152,18 +133,21 @@ fn match_in(
     chips: &[u8],
     at: usize,
 ) -> Symbol
-    requires { ⌜ (count * size ≤ 512) × (size ≤ 512) × (count ≤ 512) ⌝ }
+    requires { ⌜ (count * size ≤ 512) × (size ≤ 512) × (count ≤ 512) × (size ≡ 15 → (count ≡ 2) × (now words ≡ tableAt 0)) ⌝ }
     ensures { λ r. ⌜ r ≡ matchIn size count limit (now (words .entry)) (now (chips .entry)) at ⌝ }
 {
     if run_out(chips, at, size) {
         return refusal(RUNOUT);
     }
+    if bad_in(size, chips, at) {
+        return refusal(NOCHIP);
+    }
     judge(limit, nearest_word(size, count, words, chips, at))
 }
 
-// Looks at every word: nothing leaves the loops, and a sum of a byte's width is what the back end turns into vector sums.
+// Looks at every word: nothing leaves the loop.
 fn nearest_word(size: usize, count: u32, words: &[u8; 512], chips: &[u8], at: usize) -> Nearest
-    requires { ⌜ (count * size ≤ 512) × (size ≤ 512) × (count ≤ 512) × (at + size ≤ length (now chips)) ⌝ }
+    requires { ⌜ (count * size ≤ 512) × (size ≤ 512) × (count ≤ 512) × (at + size ≤ length (now chips)) × (size ≡ 15 → (count ≡ 2) × (now words ≡ tableAt 0)) × (bad (take size (drop at (now chips))) ≡ false) ⌝ }
     ensures { λ r. ⌜ r ≡ nearestOf (sumTo (now (words .entry)) (now (chips .entry)) at size) count ⌝ }
 {
     let mut best = Nearest {
@@ -172,13 +156,8 @@ fn nearest_word(size: usize, count: u32, words: &[u8; 512], chips: &[u8], at: us
     };
     let mut v: u32 = 0;
     let mut row: usize = 0;
-    'words: while v < count {
-        let mut d: u8 = 0;
-        let mut k: usize = 0;
-        'chips: while k < size {
-            d = std::num::wrapping_add_u8(d, chips[at + k] ^ words[row + k]);
-            k += 1;
-        }
+    while v < count {
+        let d = apart(size, v, words, row, chips, at);
         if d < best.distance {
             best = Nearest {
                 value: v,
@@ -189,6 +168,24 @@ fn nearest_word(size: usize, count: u32, words: &[u8; 512], chips: &[u8], at: us
         row += size;
     }
     best
+}
+
+// The sum of exclusive ors of word v, whose row is lent, and the chips from a place on: the distance, where both are of chips. A sum of a
+// byte's width is what the back end turns into vector sums, but not over fifteen bytes.
+fn apart(size: usize, v: u32, words: &[u8; 512], row: usize, chips: &[u8], at: usize) -> u8
+    requires { ⌜ (row ≡ v * size) × (row + size ≤ 512) × (at + size ≤ length (now chips)) × (size ≡ 15 → (v < 2) × (now words ≡ tableAt 0)) × (bad (take size (drop at (now chips))) ≡ false) ⌝ }
+    ensures { λ r. ⌜ r ≡ sumTo (now (words .entry)) (now (chips .entry)) at size v ⌝ }
+{
+    if size == 15 {
+        return fifteen::apart(v, chips, at);
+    }
+    let mut d: u8 = 0;
+    let mut k: usize = 0;
+    while k < size {
+        d = std::num::wrapping_add_u8(d, chips[at + k] ^ words[row + k]);
+        k += 1;
+    }
+    d
 }
 
 fn judge(limit: u8, n: Nearest) -> Symbol
@@ -212,6 +209,17 @@ fn run_out(chips: &[u8], at: usize, size: usize) -> bool
         return true;
     }
     chips.len() - size < at
+}
+
+// Whether a window has a byte that is no chip.
+fn bad_in(size: usize, chips: &[u8], at: usize) -> bool
+    requires { ⌜ at + size ≤ length (now chips) ⌝ }
+    ensures { λ r. ⌜ r ≡ bad (take size (drop at (now (chips .entry)))) ⌝ }
+{
+    if size == 15 {
+        return fifteen::any_bad(chips, at);
+    }
+    1 < highest(chips, at, size)
 }
 
 // The highest byte of a window: above 1 where one of them is no chip.

@@ -4,7 +4,7 @@
 ghost use mathlib.Core.Path.{_≡_};
 ghost use mathlib.Core.Bool.{true};
 ghost use Prim.Native.Nat.{_+_, _*_, _/_, _%_, _^_, _≤_, _<_};
-ghost use lib.ListN.{length, getD, drop};
+ghost use lib.ListN.{length, getD, take, drop};
 ghost use lib.Seq.{paste};
 ghost use Rattle.codes.specs.Radio.{known, radioOf, word};
 ghost use Rattle.codes.specs.Lent.{tableAt};
@@ -48,19 +48,33 @@ fn refusal(number: u32) -> Written
     Written { number, chips: 0 }
 }
 
-// Every octet of the frame in turn. The chain runs through all of them.
+// The frame over the front of the buffer. Each mode's table is made by itself, of constants: made in one place for either mode, it would be
+// put together chip by chip.
 fn put_frame(mode: u32, report: &[u8], out: &mut [u8])
     requires { ⌜ (known mode ≡ true) × (length (now report) ≤ 127) × ((6 + length (now report)) * octetChips (radioOf mode) ≤ length (now out)) ⌝ }
     ensures { λ _. ⌜ now (out .exit) ≡ over (now (out .entry)) 0 (chipsOf (radioOf mode) (symbols (radioOf mode) (now (report .entry)))) ⌝ }
 {
-    let words = codes::table(mode);
+    if mode == 0 {
+        let words = codes::table(0);
+        put_octets(0, &words, report, out);
+    } else {
+        let words = codes::table(1);
+        put_octets(1, &words, report, out);
+    }
+}
+
+// Every octet of the frame in turn. The chain runs through all of them.
+fn put_octets(mode: u32, words: &[u8; 512], report: &[u8], out: &mut [u8])
+    requires { ⌜ (known mode ≡ true) × (length (now report) ≤ 127) × ((6 + length (now report)) * octetChips (radioOf mode) ≤ length (now out)) × (now words ≡ tableAt mode) ⌝ }
+    ensures { λ _. ⌜ now (out .exit) ≡ over (now (out .entry)) 0 (chipsOf (radioOf mode) (symbols (radioOf mode) (now (report .entry)))) ⌝ }
+{
     let size = octet_chips(mode);
     let count = 6 + report.len();
     let mut last: u8 = 0;
     let mut at: usize = 0;
     let mut j: usize = 0;
     while j < count {
-        last = put_octet(mode, &words, last, octet_at(report, j), out, at);
+        last = put_octet(mode, words, last, octet_at(report, j), out, at);
         at += size;
         j += 1;
     }
@@ -111,15 +125,16 @@ fn put_symbol(mode: u32, words: &[u8; 512], v: u8, out: &mut [u8], at: usize)
 {
     let row = v as usize;
     if mode == 0 {
-        put_word(words, row * 15, 15, out, at);
+        let word = fifteen(words, row * 15);
+        put_word(&word, 0, 15, out, at);
     } else {
         put_word(words, row * 32, 32, out, at);
     }
 }
 
-// Copies one word of the table. Called with constants, so that it is a copy of constant length.
-fn put_word(words: &[u8; 512], row: usize, size: usize, out: &mut [u8], at: usize)
-    requires { ⌜ (row + size ≤ 512) × (length (now words) ≡ 512) × (at + size ≤ length (now out)) ⌝ }
+// Copies one word. Called with constants, so that it is a copy of constant length.
+fn put_word(words: &[u8], row: usize, size: usize, out: &mut [u8], at: usize)
+    requires { ⌜ (row + size ≤ length (now words)) × (at + size ≤ length (now out)) ⌝ }
     ensures { λ _. ⌜ now (out .exit) ≡ paste (now (out .entry)) at (drop row (now (words .entry))) size ⌝ }
 {
     let mut k: usize = 0;
@@ -127,6 +142,20 @@ fn put_word(words: &[u8; 512], row: usize, size: usize, out: &mut [u8], at: usiz
         out[at + k] = words[row + k];
         k += 1;
     }
+}
+
+// A word of fifteen chips, taken aside: with all of them read before the first is stored, the back end stores eight at a time.
+fn fifteen(words: &[u8; 512], row: usize) -> [u8; 15]
+    requires { ⌜ (row + 15 ≤ 512) × (length (now words) ≡ 512) ⌝ }
+    ensures { λ r. ⌜ r ≡ take 15 (drop row (now (words .entry))) ⌝ }
+{
+    let mut word = [0u8; 15];
+    let mut k: usize = 0;
+    while k < 15 {
+        word[k] = words[row + k];
+        k += 1;
+    }
+    word
 }
 
 // The symbol sent for a raw one after the symbol `last`.

@@ -5,7 +5,7 @@ use mathlib.Core.Bool.{true, false}
 use mathlib.Core.List.{List, []}
 use Prim.Native.Nat.{ℕ, suc, _+_, _-_, _≤_, _<_}
 use native.Mathlib.Omega.{arith}
-use lib.ListN.{length, getD, take, drop, length-drop}
+use lib.ListN.{length, getD, take, drop}
 use lib.Seq.{getD-take, getD-drop}
 use borrow.Author.Tests.{le-ltb}
 use lib.Dec.{eqb}
@@ -13,14 +13,14 @@ use Rattle.codes.specs.Numbers.{DONE, NOCHIP}
 use Rattle.codes.specs.Chips.{pick, bad}
 use Rattle.codes.specs.Radio.{known, radioOf}
 use Rattle.codes.specs.Symbol.{symbolOf, symbolAt}
-use Rattle.codes.specs.Lent.{sizeAt, tableAt, badAt}
+use Rattle.codes.specs.Lent.{sizeAt, tableAt}
 use Rattle.codes.specs.Matching.{matchedAt}
 use Rattle.codes.specs.declared.Symbol.{Symbol}
 use Rattle.codes.proofs.Tests.{by-test}
 use Rattle.codes.proofs.Modes.{each-row, size-known}
-use Rattle.codes.proofs.Chips.{chip-at, no-higher}
+use Rattle.codes.proofs.Chips.{chip-at}
 use Rattle.codes.proofs.Facts.{sound}
-use Rattle.codes.proofs.Equal.{matched-symbol, bad-window}
+use Rattle.codes.proofs.Equal.{matched-symbol}
 use Rattle.reader.specs.declared.Hand.{Hand}
 use Rattle.reader.specs.Order.{reading}
 use Rattle.reader.specs.Taking.{begun, stopped, advanced, followed, roomed, keptAt, Tells}
@@ -60,12 +60,6 @@ bad-byte chips at size k h b =
     by-test (bad (take size (drop at chips))) (λ t. t)
     (λ f. absurd (omega (arith, chip-at (take size (drop at chips)) f k, getD-take size (drop at chips) k 0 h, getD-drop at chips k 0)))
 
--- and none in one chip more of it
-pub good-byte : (chips : List ℕ) (at k : ℕ) → at + k < length chips → getD chips (at + k) 0 ≤ 1 → bad (take k (drop at chips)) ≡ false → bad (take (k + 1) (drop at chips)) ≡ false
-good-byte chips at k h b f =
-    let l : k < length (drop at chips) = simp length-drop (omega arith) in
-    sym (no-higher (drop at chips) k 1 (getD chips (at + k) 0) l (sym (getD-drop at chips k 0)) (sym f) b)
-
 pub size-positive : (mode size : ℕ) → known mode ≡ true → size ≡ sizeAt mode → 0 < size
 size-positive mode size m e = rw (e ∙ size-known mode m) (size-pos (radioOf mode) (sound mode))
 
@@ -87,16 +81,11 @@ module _ (mode : ℕ) (m : known mode ≡ true) (room : ℕ) (chips : List ℕ) 
       pub stops-bad : bad (take size (drop at chips)) ≡ true → (g : Hand) → g ≡ stopped NOCHIP h → Tells (radioOf mode) room (reading (radioOf mode) room chips) octets g
       stops-bad b g q = rw q (scan-bad (radioOf mode) (sound mode) room chips octets h at L (rw is at l) (rw is at b))
 
-      -- what the test of the bytes says
-      pub all-chips : badAt mode chips at ≡ false → bad (take size (drop at chips)) ≡ false
-      unfolding badAt
-      all-chips b = rw is (sym (bad-window (radioOf mode .size) chips at whole) ∙ rw m at b)
-
-      module _ (b : bad (take size (drop at chips)) ≡ false) (words : List ℕ) (t : words ≡ tableAt mode) (x : Symbol) (ex : x ≡ matchedAt mode words chips at) (f : Hand) (ef : f ≡ followed mode h x) (g : Hand)
+      module _ (words : List ℕ) (t : words ≡ tableAt mode) (x : Symbol) (ex : x ≡ matchedAt mode words chips at) (f : Hand) (ef : f ≡ followed mode h x) (g : Hand)
           (eg : g ≡ roomed room h f) (kept : List ℕ) (ek : kept ≡ keptAt mode g octets) where
         symbol-is : x ≡ symbolOf (radioOf mode) (take (radioOf mode .size) (drop at chips))
         unfolding symbolAt
-        symbol-is = ex ∙ matched-symbol mode words chips at t (rw is at b) ∙ rw (m, le-ltb (length chips) (at + radioOf mode .size) whole)
+        symbol-is = ex ∙ matched-symbol mode words chips at t ∙ rw (m, le-ltb (length chips) (at + radioOf mode .size) whole)
 
         pub turns : Turning (radioOf mode) room chips kept g (at + size)
         unfolding followed keptAt

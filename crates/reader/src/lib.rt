@@ -47,8 +47,8 @@ pub fn read(mode: u32, chips: &[u8], report: &mut [u8]) -> Reading
     answer
 }
 
-// The reading order over the buffer. The test of a symbol's bytes has no exit, so that nothing keeps the back end from looking at many
-// at a time; only where it finds one that is no chip does the loop over chips run, which then always leaves. A refusal leaves the
+// The reading order over the buffer. Matching tests a symbol's bytes without an exit, so that nothing keeps the back end from looking at
+// many at a time; only where one is no chip does the loop over chips run, which then leaves at it. A refusal leaves the
 // loops with the hand's number and place. `keep` stands before the last test, so that the frame's last octet is kept too.
 fn scan(mode: u32, chips: &[u8], room: usize, octets: &mut [u8; 127]) -> Hand
     requires { ⌜ (known mode ≡ true) × (length (now octets) ≡ 127) ⌝ }
@@ -59,7 +59,8 @@ fn scan(mode: u32, chips: &[u8], room: usize, octets: &mut [u8; 127]) -> Hand
     let mut hand = begin();
     let mut at: usize = 0;
     'symbols: while size <= chips.len() - at {
-        if codes::bad_symbol(mode, chips, at) {
+        let symbol = codes::matched(mode, &words, chips, at);
+        if symbol.number == codes::NOCHIP {
             let mut k: usize = 0;
             'chips: while k < size {
                 if 1 < chips[at + k] {
@@ -69,7 +70,7 @@ fn scan(mode: u32, chips: &[u8], room: usize, octets: &mut [u8; 127]) -> Hand
                 k += 1;
             }
         }
-        let next = follow(mode, hand, codes::matched(mode, &words, chips, at));
+        let next = follow(mode, hand, symbol);
         hand = with_room(room, hand, next);
         keep(mode, hand, octets);
         if hand.number != codes::MORE {

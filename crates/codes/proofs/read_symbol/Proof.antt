@@ -1,71 +1,48 @@
--- `read_symbol` meets its contract: a law for each of its four ways (Equal.antt). Assumes nothing.
-use mathlib.Core.Path.{sym, _∙_}
+-- `read_symbol` meets its contract: the constants of each call are the numbers of the mode's radio, whose own table is given (Equal.antt). Assumes nothing.
+use mathlib.Core.Path.{refl, _∙_}
+use native.Mathlib.Omega.{arith}
+use Rattle.codes.specs.Radio.{bpskWords, oqpskWords, turnedWords, turns}
+use Rattle.codes.specs.Symbol.{symbolAt}
+use Rattle.codes.proofs.Equal.{table-symbol}
+use Rattle.codes.proofs.Modes.{unknown}
 use borrow.Author.Needs.{needs}
-use borrow.Author.Tests.{ltb-false, lt-ltb, le-ltb}
-use Rattle.codes.proofs.Equal.{bad-window, no-radio, too-few, no-chip, all-chips}
 use Rattle.codes.proofs.read_symbol.Statement.{statement}
 use Rattle.codes.proofs.read_symbol.Tie as tie
 
-size-of-requires : tie.Need-size-of-requires
-size-of-requires c κs = search needs
-
-refusal-requires : tie.Need-refusal-requires
-refusal-requires c κs = search needs
+read-bit-requires : tie.Need-read-bit-requires
+read-bit-requires c κs = search needs
 
 returns : tie.Need-returns
-returns c = c .refusal .ensures ∙ no-radio _ _ _ _ (c .before .before .size-of .ensures) (c .before .if1 .taken)
-
-run-out-requires : tie.Need-run-out-requires
-run-out-requires c κs = search needs
-
-refusal-requires-2 : tie.Need-refusal-requires-2
-refusal-requires-2 c κs = search needs
-
-returns-2 : tie.Need-returns-2
-returns-2 c =
-    c .refusal2 .ensures
-    ∙ too-few _ _ _ _ (c .before .before .before .before .size-of .ensures) (c .before .before .before .if1 .left) (sym (c .before .before .run-out .ensures) ∙ c .before .if2 .taken)
-
-bad-in-requires : tie.Need-bad-in-requires
-bad-in-requires c κs = search needs
-
-refusal-requires-3 : tie.Need-refusal-requires-3
-refusal-requires-3 c κs = search needs
-
-returns-3 : tie.Need-returns-3
-returns-3 c =
-    let o = c .before .before .before .before in
-    let f = ltb-false _ _ (sym (o .run-out .ensures) ∙ c .before .before .before .if2 .left) in
-    c .refusal3 .ensures
-    ∙ no-chip _ _ _ _ (o .before .before .size-of .ensures) (o .before .if1 .left) f (sym (c .before .before .bad-in .ensures ∙ bad-window _ _ _ f) ∙ c .before .if3 .taken)
+unfolding bpskWords
+returns c = rw (c .before .if1 .taken) (c .read-bit .ensures ∙ table-symbol 0 refl _ _)
 
 table-requires : tie.Need-table-requires
 table-requires c κs = search needs
 
-matched-requires : tie.Need-matched-requires
-matched-requires c κs = search needs
+match-in-requires : tie.Need-match-in-requires
+match-in-requires c κs = (omega arith, omega arith, omega arith, λ e. absurd (omega arith))
 
-returns-4 : tie.Need-returns-4
-returns-4 c =
-    let h = c .before .before .before .before in
-    let o = h .before .before in
-    let f = ltb-false _ _ (sym (o .run-out .ensures) ∙ h .before .if2 .left) in
-    c .matched .ensures
-    ∙ all-chips _ _ _ _ (o .before .before .size-of .ensures) (o .before .if1 .left) _ (c .before .before .table .ensures) (sym (h .bad-in .ensures ∙ bad-window _ _ _ f) ∙ c .before .before .before .if3 .left)
+returns-2 : tie.Need-returns-2
+unfolding oqpskWords turnedWords turns
+returns-2 c =
+    let t = c .before .before in
+    rw (t .before .if2 .taken) (rw (t .table .ensures) at (c .match-in .ensures) ∙ table-symbol 1 refl _ _)
+
+refusal-requires : tie.Need-refusal-requires
+refusal-requires c κs = search needs
+
+returns-3 : tie.Need-returns-3
+unfolding symbolAt
+returns-3 c = rw (unknown _ (c .before .before .if1 .left) (c .before .if2 .left)) (c .refusal .ensures)
 
 pub read-symbol-spec : {M : Type 1} → statement M
 read-symbol-spec =
     tie.close
     (tie.spec
-    size-of-requires
-    refusal-requires
+    read-bit-requires
     returns
-    run-out-requires
-    refusal-requires-2
-    returns-2
-    bad-in-requires
-    refusal-requires-3
-    returns-3
     table-requires
-    matched-requires
-    returns-4)
+    match-in-requires
+    returns-2
+    refusal-requires
+    returns-3)

@@ -1,96 +1,51 @@
--- `put_frame` meets its contract: what is still to be written over the buffer stays the frame (`FrameLeft`). Assumes nothing.
-use Prim.Native.Nat.{_-_}
-use native.Mathlib.Omega.{arith}
-use Rattle.codes.specs.Radio.{radioOf}
-use Rattle.codes.proofs.Facts.{sound}
-use Rattle.frame.specs.Frame.{octets, symbols}
-use Rattle.frame.proofs.Octets.{octets-long}
-use Rattle.frame.proofs.Turns.{FrameLeft, frame-starts, frame-ends, frame-room, frame-turns}
+-- `put_frame` meets its contract: a mode that has a radio is 0 or 1, and each is given its own table. Assumes nothing.
+use mathlib.Core.Path.{refl}
+use Rattle.codes.proofs.Modes.{second}
+use borrow.Author.Needs.{needs}
 use Rattle.frame.proofs.put_frame.Statement.{statement}
 use Rattle.frame.proofs.put_frame.Tie as tie
 
-abbrev Inv-loop : tie.InvT-loop
-Inv-loop mode report out₀ words size count last₀ at₀ j₀ out last at j = FrameLeft (radioOf mode) (octets report) out₀ out last at j
+table-requires : tie.Need-table-requires
+table-requires c κs = search needs
 
-abbrev μ-loop : tie.MeasureT-loop
-μ-loop mode report out₀ words size count last₀ at₀ j₀ out last at j = count - j
+put-octets-requires : tie.Need-put-octets-requires
+put-octets-requires c κs =
+    let s = c .before .before .before .before .before .before in
+    let z = c .before .before .before .if1 .taken in
+    (refl, s .pre .1, rw z at (s .pre .2), c .before .before .table .ensures)
 
-table-requires : tie.Need-table-requires Inv-loop μ-loop
-table-requires c κs = tt
+table-requires-2 : tie.Need-table-requires-2
+table-requires-2 c κs = search needs
 
-octet-chips-requires : tie.Need-octet-chips-requires Inv-loop μ-loop
-octet-chips-requires c κs = c .before .before .before .pre .0
+put-octets-requires-2 : tie.Need-put-octets-requires-2
+put-octets-requires-2 c κs =
+    let s = c .before .before .before .before .before .before in
+    let z = second (s .args .mode) (s .pre .0) (c .before .before .before .if1 .left) in
+    (refl, s .pre .1, rw z at (s .pre .2), c .before .before .table2 .ensures)
 
-add-count : tie.Need-add-count Inv-loop μ-loop
-add-count c = omega (arith, c .before .before .before .before .pre .1)
+same-length : tie.Need-same-length
+same-length c = search needs
 
-loop-holds : tie.Need-loop-holds Inv-loop μ-loop
-loop-holds c = frame-starts _ _ _
+returns : tie.Need-returns
+returns c = rw (c .before .before .before .before .before .before .if1 .taken) (c .before .before .put-octets .ensures)
 
-octet-at-requires : tie.Need-octet-at-requires Inv-loop μ-loop
-octet-at-requires c κs = let s = c .before .before .before .before .before .before .before in
-    (s .pre .1, c .before .loop-test .taken)
+same-length-2 : tie.Need-same-length-2
+same-length-2 c = search needs
 
-put-octet-requires : tie.Need-put-octet-requires Inv-loop μ-loop
-put-octet-requires c κs =
-    let l = c .before .before .before .before in
-    let s = l .before .before .before .before .before in
-    let r = radioOf (s .args .mode) in
-    let n = octets-long (s .args .report .now) in (
-      s .pre .0,
-      l .before .before .table .ensures,
-      l .loop .inv .value,
-      frame-room r _ _ _ _ _ _ (l .loop .inv) (rw n (s .pre .2)) (rw n (c .before .before .before .loop-test .taken)),
-    )
-
-add-at : tie.Need-add-at Inv-loop μ-loop
-add-at c =
-    let l = c .before .before .before .before .before .before .before in
-    let s = l .before .before .before .before .before in
-    let n = octets-long (s .args .report .now) in
-    omega (arith, frame-room (radioOf (s .args .mode)) _ _ _ _ _ _ (l .loop .inv) (rw n (s .pre .2)) (rw n (c .before .before .before .before .before .before .loop-test .taken)), l .loop .inv .same, l .before .octet-chips .ensures, s .good)
-
-add-j : tie.Need-add-j Inv-loop μ-loop
-add-j c = let s = c .before .before .before .before .before .before .before .before .before .before .before .before in
-    omega (arith, s .pre .1, c .before .before .before .before .before .before .loop-test .taken)
-
-loop-less : tie.Need-loop-less Inv-loop μ-loop
-loop-less c = omega (arith, c .before .before .before .before .before .before .loop-test .taken)
-
-loop-again : tie.Need-loop-again Inv-loop μ-loop
-loop-again c =
-    let l = c .before .before .before .before .before .before .before in
-    let s = l .before .before .before .before .before in
-    let r = radioOf (s .args .mode) in
-    let n = octets-long (s .args .report .now) in
-    let o = c .before .before .put-octet in
-    let x = c .before .before .before .before .octet-at .ensures in
-    frame-turns r _ _ _ _ _ _ (l .loop .inv) (rw n (s .pre .2)) (rw n (c .before .before .before .before .before .before .loop-test .taken)) (sound (s .args .mode)) _ _ _
-    (rw x at (o .ensures .0)) (o .kept .1 .1 .1 .1 .0) (rw x at (o .ensures .1)) (l .before .octet-chips .ensures)
-
-same-length : tie.Need-same-length Inv-loop μ-loop
-same-length c = c .before .loop .inv .same
-
-returns : tie.Need-returns Inv-loop μ-loop
-unfolding symbols
-returns c = let s = c .before .before .before .before .before .before in
-    frame-ends (radioOf (s .args .mode)) _ _ _ _ _ _ (c .before .loop .inv) (rw (octets-long (s .args .report .now)) (c .loop-test .left))
+returns-2 : tie.Need-returns-2
+returns-2 c =
+    let s = c .before .before .before .before .before .before .before .before .before in
+    rw (second (s .args .mode) (s .pre .0) (c .before .before .before .before .before .before .if1 .left)) (c .before .before .put-octets2 .ensures)
 
 pub put-frame-spec : {M : Type 1} → statement M
 put-frame-spec =
     tie.close
     (tie.spec
-    Inv-loop
-    μ-loop
     table-requires
-    octet-chips-requires
-    add-count
-    loop-holds
-    octet-at-requires
-    put-octet-requires
-    add-at
-    add-j
-    loop-less
-    loop-again
+    put-octets-requires
+    table-requires-2
+    put-octets-requires-2
     same-length
-    returns)
+    returns
+    same-length-2
+    returns-2)

@@ -22,8 +22,8 @@ loop-holds c = (omega arith, refl, paste-zero (c .args .out .now) (c .args .at) 
 add-out : tie.Need-add-out Inv-loop μ-loop
 add-out c = search needs
 
-element-copy-out-out : tie.Need-element-copy-out-out Inv-loop μ-loop
-element-copy-out-out c = search needs
+shared-slice-read-out : tie.Need-shared-slice-read-out Inv-loop μ-loop
+shared-slice-read-out c = search needs
 
 add-out-2 : tie.Need-add-out-2 Inv-loop μ-loop
 add-out-2 c = search needs
@@ -63,7 +63,7 @@ put-word-spec =
     μ-loop
     loop-holds
     add-out
-    element-copy-out-out
+    shared-slice-read-out
     add-out-2
     slice-write-out
     add-k

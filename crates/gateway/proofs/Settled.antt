@@ -1,0 +1,46 @@
+-- The promises of the exported functions settle what they speak of: two outcomes that satisfy one are equal, the whole record that comes
+-- back among them, and every byte of a lent buffer at exit. Each speaks of the function's own contract, as `Settles` does. Assumes
+-- nothing.
+use mathlib.Core.Path.{_≡_}
+use contract.Lifetimes.{Lfts}
+use denote.Ref.{now}
+use denote.Triple.Clauses.{AtExit}
+use borrow.Fn.Kinds.{Dens, resT, endedOf}
+use Rattle.codes.proofs.Settled.{settled, Settles}
+use Rattle.frame.proofs.Settled.{both}
+use Rattle.gateway.proofs.lernazhup_write.Kinds as write-kinds
+use Rattle.gateway.proofs.lernazhup_write.Reads as write-promise
+use Rattle.gateway.proofs.lernazhup_read.Kinds as read-kinds
+use Rattle.gateway.proofs.lernazhup_read.Reads as read-promise
+use Rattle.gateway.proofs.lernazhup_start.Kinds as start-kinds
+use Rattle.gateway.proofs.lernazhup_start.Reads as start-promise
+use Rattle.gateway.proofs.lernazhup_push.Kinds as push-kinds
+use Rattle.gateway.proofs.lernazhup_push.Reads as push-promise
+use Rattle.gateway.proofs.lernazhup_finish.Kinds as finish-kinds
+use Rattle.gateway.proofs.lernazhup_finish.Reads as finish-promise
+use Rattle.gateway.proofs.lernazhup_take.Kinds as take-kinds
+use Rattle.gateway.proofs.lernazhup_take.Reads as take-promise
+
+-- `s .1 .1 .0` is the third parameter at exit
+pub write-settled : (κs : Lfts 2) (a : Dens κs write-kinds.ps) (p q : resT write-kinds.r κs .Denot) (s t : AtExit (endedOf 2 write-kinds.ps write-kinds.r) κs)
+    → write-promise.Post κs a p s → write-promise.Post κs a q t → (p ≡ q) × (now (s .1 .1 .0) ≡ now (t .1 .1 .0))
+write-settled κs a p q s t e f = both p q _ _ (settled _ _ e f)
+
+-- `s .1 .1 .0` is the third parameter at exit
+pub read-settled : (κs : Lfts 2) (a : Dens κs read-kinds.ps) (p q : resT read-kinds.r κs .Denot) (s t : AtExit (endedOf 2 read-kinds.ps read-kinds.r) κs)
+    → read-promise.Post κs a p s → read-promise.Post κs a q t → (p ≡ q) × (now (s .1 .1 .0) ≡ now (t .1 .1 .0))
+read-settled κs a p q s t e f = both p q _ _ (settled _ _ e f)
+
+pub start-settled : Settles 0 start-kinds.ps start-kinds.r start-promise.Post
+start-settled κs a p q s t = settled p q
+
+pub push-settled : Settles 1 push-kinds.ps push-kinds.r push-promise.Post
+push-settled κs a p q s t = settled p q
+
+pub finish-settled : Settles 0 finish-kinds.ps finish-kinds.r finish-promise.Post
+finish-settled κs a p q s t = settled p q
+
+-- `s .1 .0` is the second parameter at exit
+pub take-settled : (κs : Lfts 1) (a : Dens κs take-kinds.ps) (p q : resT take-kinds.r κs .Denot) (s t : AtExit (endedOf 1 take-kinds.ps take-kinds.r) κs)
+    → take-promise.Post κs a p s → take-promise.Post κs a q t → (p ≡ q) × (now (s .1 .0) ≡ now (t .1 .0))
+take-settled κs a p q s t e f = both p q _ _ (settled _ _ e f)

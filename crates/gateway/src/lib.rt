@@ -1,0 +1,56 @@
+// The functions that C calls, with the names, parameters and structs of include/lernazhup.h. Each is one call of the function of the
+// same name below it and promises what that one does, so there is nothing more to prove. The structs are those of `frame`, `reader`
+// and `receiver`, laid out as C lays them out.
+ghost use mathlib.Core.Path.{_≡_};
+ghost use Rattle.frame.specs.Outcome.{outcome};
+ghost use Rattle.frame.specs.Write.{written};
+ghost use Rattle.reader.specs.Read.{readOf};
+ghost use Rattle.receiver.specs.Record.{startOf, pushOf, finishOf, takeOf};
+
+// A report to a frame's chips.
+#[no_mangle]
+pub extern "C" fn lernazhup_write(mode: u32, report: &[u8], chips: &mut [u8]) -> frame::Written
+    ensures { λ r. ⌜ outcome r (now (chips .exit)) ≡ written mode (now (report .entry)) (now (chips .entry)) ⌝ }
+{
+    frame::write(mode, report, chips)
+}
+
+// A frame's chips to the report.
+#[no_mangle]
+pub extern "C" fn lernazhup_read(mode: u32, chips: &[u8], report: &mut [u8]) -> reader::Reading
+    ensures { λ r. ⌜ outcome r (now (report .exit)) ≡ readOf mode (now (chips .entry)) (now (report .entry)) ⌝ }
+{
+    reader::read(mode, chips, report)
+}
+
+// A record for a mode.
+#[no_mangle]
+pub extern "C" fn lernazhup_start(mode: u32) -> receiver::Step
+    ensures { λ r. ⌜ r ≡ startOf mode ⌝ }
+{
+    receiver::Receiver::start(mode)
+}
+
+// One symbol's chips.
+#[no_mangle]
+pub extern "C" fn lernazhup_push(receiver: receiver::Receiver, part: &[u8]) -> receiver::Step
+    ensures { λ r. ⌜ r ≡ pushOf receiver (now (part .entry)) ⌝ }
+{
+    receiver.push(part)
+}
+
+// No more symbols.
+#[no_mangle]
+pub extern "C" fn lernazhup_finish(receiver: receiver::Receiver) -> receiver::Step
+    ensures { λ r. ⌜ r ≡ finishOf receiver ⌝ }
+{
+    receiver.finish()
+}
+
+// What the record has come to.
+#[no_mangle]
+pub extern "C" fn lernazhup_take(receiver: receiver::Receiver, report: &mut [u8]) -> reader::Reading
+    ensures { λ r. ⌜ outcome r (now (report .exit)) ≡ takeOf receiver (now (report .entry)) ⌝ }
+{
+    receiver.take(report)
+}

@@ -1,0 +1,154 @@
+/* Lernazhup: IEEE 802.15.4 frames of reports, and reports of frames.
+ *
+ * A report is the PSDU, 0 to 127 octets. Chips are hard chips, a byte each, 0 or 1; the first chip of a buffer is the first
+ * chip of the preamble.
+ *
+ *   mode  radio             chips    accepted distance   chips of the frame of   at most
+ *                           a symbol of a symbol         a report of n octets
+ *   0     868/915 BPSK      15       6                   720 + 120 n             15,960
+ *   1     2450 O-QPSK       32       5                   384 + 64 n               8,512
+ *
+ * A symbol that is not within the accepted distance of a code word is refused and not guessed: flat chips, all 0 or all 1,
+ * are never part of a frame. Every call takes every mode number, every length and every record, ends, and answers one of the
+ * numbers below. A refusal leaves every lent byte as it was.
+ *
+ * Buffers. A pointer and a length are a buffer: so many bytes, all readable, and writable where the pointer isn't const. A
+ * null pointer with length 0 is an empty buffer. No other null pointer may be given, and no two buffers of one call may
+ * overlap. A length is at most PTRDIFF_MAX, as of every object in C. Nothing is kept of a buffer after the call, nothing
+ * is allocated, and there is no state outside the arguments: calls may run at the same time, each on its own buffers.
+ *
+ * The functions are proved to meet what is said here, for x86-64. What a caller gives them is checked by nothing but the
+ * caller: the rules on buffers are yours to keep. */
+#ifndef LERNAZHUP_H
+#define LERNAZHUP_H
+
+#include <stddef.h>
+#include <stdint.h>
+
+#ifdef __cplusplus
+extern "C" {
+#endif
+
+/* The numbers given back. */
+#define LERNAZHUP_DONE 0u      /* done                                 write, read, push, take */
+#define LERNAZHUP_BADMODE 1u   /* mode is neither 0 nor 1              write, read, start; take repeats it */
+#define LERNAZHUP_TOOLONG 2u   /* report longer than 127               write */
+#define LERNAZHUP_NOROOM 3u    /* lent buffer too short                write, read, take */
+#define LERNAZHUP_RUNOUT 4u    /* chips run out                        read, finish; take repeats it */
+#define LERNAZHUP_NOCHIP 5u    /* byte that isn't a chip               read, push; take repeats it */
+#define LERNAZHUP_LOST 6u      /* symbol lost: no word near enough     read, push; take repeats it */
+#define LERNAZHUP_PREAMBLE 7u  /* preamble not zero                    read, push; take repeats it */
+#define LERNAZHUP_BADSTART 8u  /* wrong start octet                    read, push; take repeats it */
+#define LERNAZHUP_RESERVED 9u  /* reserved bit of the length octet set read, push; take repeats it */
+#define LERNAZHUP_ENDED 10u    /* receiver already ended               push, finish */
+#define LERNAZHUP_BADPART 11u  /* part isn't exactly one symbol long   push */
+#define LERNAZHUP_NOTENDED 12u /* receiver not ended yet               take */
+#define LERNAZHUP_MORE 13u     /* more wanted: no refusal              start, push */
+#define LERNAZHUP_FORGED 34u   /* record that these calls don't make   push, finish, take */
+
+/* Sizes: a report, a symbol and the largest frame of each mode, and the larger of the two. */
+#define LERNAZHUP_REPORT_MAX 127
+#define LERNAZHUP_SYMBOL_MODE0 15
+#define LERNAZHUP_SYMBOL_MODE1 32
+#define LERNAZHUP_CHIPS_MAX_MODE0 15960
+#define LERNAZHUP_CHIPS_MAX_MODE1 8512
+#define LERNAZHUP_CHIPS_MAX LERNAZHUP_CHIPS_MAX_MODE0
+
+/* What the writer gives back. */
+typedef struct {
+    uint32_t number; /* LERNAZHUP_DONE or the refusal */
+    uint32_t chips;  /* chips written; 0 on a refusal */
+} lernazhup_written;
+
+/* What the reader and take give back. */
+typedef struct {
+    uint32_t number; /* LERNAZHUP_DONE or the refusal */
+    uint32_t place;  /* done: symbols in the frame; refused: the number of the symbol where the first thing was found wrong */
+    uint32_t n;      /* octets of the report; 0 on a refusal */
+    uint32_t count;  /* chips repaired, over the whole frame; 0 on a refusal */
+} lernazhup_reading;
+
+/* The stepping receiver's record. It goes into each call and comes back from it; nothing else is kept. Its fields may be
+ * looked at. A record that these calls don't make is told by its numbers and answered LERNAZHUP_FORGED, as far as they tell. */
+typedef struct {
+    uint32_t mode;   /* as given to start */
+    uint32_t ended;  /* LERNAZHUP_MORE while open, LERNAZHUP_DONE ended well, else the number of the refusal */
+    uint32_t taken;  /* symbols taken: the number of the next symbol; where it ended, the place */
+    uint32_t length; /* n once the length octet is read, 0 before */
+    uint32_t count;  /* chips repaired so far */
+    uint32_t last;   /* the last symbol's value: in mode 0 the encoded bit before the next one */
+    uint32_t octet;  /* the octet in hand */
+    uint8_t octets[LERNAZHUP_REPORT_MAX]; /* the report's octets so far */
+} lernazhup_receiver;
+
+/* What start, push and finish give back. */
+typedef struct {
+    uint32_t number;
+    lernazhup_receiver receiver; /* the record for the next call */
+} lernazhup_step;
+
+/* Writes the frame of a report over the first chips of a buffer.
+ * Done: the chip count; later bytes keep their values.
+ * Refused: LERNAZHUP_BADMODE, LERNAZHUP_TOOLONG and LERNAZHUP_NOROOM, tested in that order; the buffer stays as it was. */
+lernazhup_written lernazhup_write(uint32_t mode, const uint8_t *report, size_t report_len, uint8_t *chips, size_t chips_len);
+
+/* Reads the frame that the chips begin with and stores its report.
+ * Done: the first n bytes of the report buffer are the report; later ones keep their values. Chips after the frame are not
+ * looked at. With a buffer of LERNAZHUP_REPORT_MAX bytes there is room for every report.
+ * Refused: LERNAZHUP_BADMODE with place 0; then at each symbol in turn LERNAZHUP_RUNOUT, LERNAZHUP_NOCHIP, LERNAZHUP_LOST,
+ * LERNAZHUP_PREAMBLE, LERNAZHUP_BADSTART, LERNAZHUP_RESERVED and LERNAZHUP_NOROOM, in that order; the first thing found wrong
+ * ends the reading, and the report buffer stays as it was. */
+lernazhup_reading lernazhup_read(uint32_t mode, const uint8_t *chips, size_t chips_len, uint8_t *report, size_t report_len);
+
+/* A record for a mode, and LERNAZHUP_MORE. A mode that no radio has: a record that has ended with LERNAZHUP_BADMODE, and that
+ * number. */
+lernazhup_step lernazhup_start(uint32_t mode);
+
+/* Takes one symbol's chips: LERNAZHUP_SYMBOL_MODE0 or LERNAZHUP_SYMBOL_MODE1 bytes.
+ * LERNAZHUP_MORE: go on. LERNAZHUP_DONE: the frame is complete, and the record has ended well. LERNAZHUP_NOCHIP to
+ * LERNAZHUP_RESERVED: the symbol is refused as the reader refuses it, the record has ended with that number, and its other
+ * fields are as they were before the symbol.
+ * LERNAZHUP_FORGED, LERNAZHUP_ENDED and LERNAZHUP_BADPART, tested first and in that order, give the record back as it was. */
+lernazhup_step lernazhup_push(lernazhup_receiver receiver, const uint8_t *part, size_t part_len);
+
+/* No more symbols: an open record ends with LERNAZHUP_RUNOUT, which is also the answer. LERNAZHUP_FORGED and LERNAZHUP_ENDED
+ * give the record back as it was. */
+lernazhup_step lernazhup_finish(lernazhup_receiver receiver);
+
+/* What a record has come to. It can be asked again.
+ * Done: what the reader gives back, with the report at the front of the buffer.
+ * LERNAZHUP_FORGED and LERNAZHUP_NOTENDED come with place 0; the number of the refusal that ended the record comes with its
+ * place; LERNAZHUP_NOROOM comes with the frame's number of symbols as place. The buffer then stays as it was. */
+lernazhup_reading lernazhup_take(lernazhup_receiver receiver, uint8_t *report, size_t report_len);
+
+/* The layout that the library was built with: a compiler that lays the structs out otherwise stops here. */
+#define LERNAZHUP_FIXED(name, fact) typedef char lernazhup_fixed_##name[(fact) ? 1 : -1]
+#define LERNAZHUP_AT(type, field, place) LERNAZHUP_FIXED(type##_##field, offsetof(lernazhup_##type, field) == (place))
+LERNAZHUP_FIXED(written, sizeof(lernazhup_written) == 8);
+LERNAZHUP_AT(written, number, 0);
+LERNAZHUP_AT(written, chips, 4);
+LERNAZHUP_FIXED(reading, sizeof(lernazhup_reading) == 16);
+LERNAZHUP_AT(reading, number, 0);
+LERNAZHUP_AT(reading, place, 4);
+LERNAZHUP_AT(reading, n, 8);
+LERNAZHUP_AT(reading, count, 12);
+LERNAZHUP_FIXED(receiver, sizeof(lernazhup_receiver) == 156);
+LERNAZHUP_AT(receiver, mode, 0);
+LERNAZHUP_AT(receiver, ended, 4);
+LERNAZHUP_AT(receiver, taken, 8);
+LERNAZHUP_AT(receiver, length, 12);
+LERNAZHUP_AT(receiver, count, 16);
+LERNAZHUP_AT(receiver, last, 20);
+LERNAZHUP_AT(receiver, octet, 24);
+LERNAZHUP_AT(receiver, octets, 28);
+LERNAZHUP_FIXED(step, sizeof(lernazhup_step) == 160);
+LERNAZHUP_AT(step, number, 0);
+LERNAZHUP_AT(step, receiver, 4);
+#undef LERNAZHUP_AT
+#undef LERNAZHUP_FIXED
+
+#ifdef __cplusplus
+}
+#endif
+
+#endif
