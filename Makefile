@@ -5,7 +5,10 @@
 # make lib      build/liblernazhup.a, build/lernazhup.h and build/lernazhup.pc, for C
 # make install  the same under PREFIX (DESTDIR before it, where given)
 # make speed    times against C, stack and sizes
-.PHONY: run send test lib install speed programs outside
+# two `rt` at once would share target/; a file half made is none
+.NOTPARALLEL:
+.DELETE_ON_ERROR:
+.PHONY: run send test lib install speed programs outside always
 
 MODE = 1
 REPORT = host/report
@@ -18,6 +21,7 @@ CASES =
 CC = host/cc
 CFLAGS = -std=c99 -O2 -Wall -Wextra -pedantic -Werror -Ibuild
 ARCHIVE = build/liblernazhup.a
+TOOLS = Makefile host/cc host/sanitizers
 # what the archive is made of
 PROVED := $(shell find crates/codes crates/frame crates/reader crates/receiver crates/gateway -name '*.rt' -o -name '*.antt')
 COMPARED = compare cases check facts lent records reference usual best copying
@@ -52,7 +56,7 @@ outside: build/fields build/compare build/stack build/example
 	@host/exec build/stack
 	@host/sizes
 	@host/compare-test '$(SEED)' '$(CASES)'
-	@host/faults-test
+	@env -u CC -u SEED -u CASES host/faults-test
 
 speed: lib build/speed build/stack
 	@host/exec build/speed
@@ -66,12 +70,18 @@ programs:
 	@rt check send bench >build/programs.log 2>&1 || { tail -n 20 build/programs.log >&2; exit 1; }
 
 lib: $(ARCHIVE) build/lernazhup.h build/lernazhup.pc
+	@:
 
 # proved first; `rt ci` removes target/, hence the copy
-$(ARCHIVE): crates.txt $(PROVED)
+$(ARCHIVE): crates.txt $(PROVED) build/kit
 	@mkdir -p build
 	@rt staticlib gateway >build/lib.log 2>&1 || { tail -n 20 build/lib.log >&2; exit 1; }
 	@cp target/staticlib/libgateway.a $@
+
+# another kit makes another archive
+build/kit: always
+	@mkdir -p build
+	@rt version | cmp -s - $@ || rt version >$@
 
 build/lernazhup.h: include/lernazhup.h
 	@mkdir -p build
@@ -79,7 +89,7 @@ build/lernazhup.h: include/lernazhup.h
 
 build/lernazhup.pc: host/pkg-config-file
 	@mkdir -p build
-	@host/pkg-config-file '$(CURDIR)/build' '$${prefix}' '$${prefix}' >$@
+	@host/pkg-config-file '$${pcfiledir}' '$${prefix}' '$${prefix}' >$@
 
 install: lib
 	install -d '$(DESTDIR)$(PREFIX)/include' '$(DESTDIR)$(PREFIX)/lib/pkgconfig'
@@ -87,11 +97,12 @@ install: lib
 	install -m 644 $(ARCHIVE) '$(DESTDIR)$(PREFIX)/lib'
 	host/pkg-config-file '$(PREFIX)' '$${prefix}/lib' '$${prefix}/include' >'$(DESTDIR)$(PREFIX)/lib/pkgconfig/lernazhup.pc'
 
-build/example build/fields build/stack: build/%: host/%.c build/lernazhup.h $(ARCHIVE)
+build/example build/fields build/stack: build/%: host/%.c build/lernazhup.h $(ARCHIVE) $(TOOLS)
 	@$(CC) $(CFLAGS) $< $(ARCHIVE) -o $@
 
-build/speed: $(addprefix host/,speed.c usual.c best.c copying.c handing.c baseline.h) build/lernazhup.h $(ARCHIVE)
-	@$(CC) $(CFLAGS) $(filter %.c,$^) $(ARCHIVE) -o $@
+build/speed: $(addprefix host/,speed.c usual.c best.c copying.c handing.c baseline.h) build/lernazhup.h $(ARCHIVE) $(TOOLS)
+	@$(CC) $(CFLAGS) -DOWN_POPCOUNT -c host/usual.c -o build/usual-own.o
+	@$(CC) $(CFLAGS) $(filter %.c,$^) build/usual-own.o $(ARCHIVE) -o $@
 
-build/compare: $(COMPARED:%=host/%.c) $(wildcard host/*.h) build/lernazhup.h $(ARCHIVE)
-	@$(CC) $(CFLAGS) -g $$(host/sanitizers) $(filter %.c,$^) $(ARCHIVE) -o $@
+build/compare: $(COMPARED:%=host/%.c) $(wildcard host/*.h) build/lernazhup.h $(ARCHIVE) $(TOOLS)
+	@flags=$$(host/sanitizers) && $(CC) $(CFLAGS) -g $$flags $(filter %.c,$^) $(ARCHIVE) -o $@

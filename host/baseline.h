@@ -11,6 +11,9 @@
 /* The reader that most engineers would write: a shift register, XOR with each word, a popcount, the best word. */
 lernazhup_reading usual_read(uint32_t mode, const uint8_t *chips, size_t chips_len, uint8_t *report, size_t report_len);
 
+/* The same with a popcount of its own, by shifts and adds (host/usual.c, built with OWN_POPCOUNT). */
+lernazhup_reading usual_own_read(uint32_t mode, const uint8_t *chips, size_t chips_len, uint8_t *report, size_t report_len);
+
 /* The fastest reader that plain x86-64 C allows: SSE2, and nothing that a compiler flag has to ask for. */
 lernazhup_reading best_read(uint32_t mode, const uint8_t *chips, size_t chips_len, uint8_t *report, size_t report_len);
 

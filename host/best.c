@@ -3,11 +3,10 @@
  * SSE2 is part of every x86-64, so no compiler flag is asked for. Only a good frame is in a hurry: the quick part reads an
  * octet at a time, notes faults without leaving, and where there was any (or too few chips, or too little room) the usual
  * reader is asked for the whole answer, since which fault came first is then what matters. */
-#include "baseline.h"
-
-#ifdef __x86_64__
 #include <emmintrin.h>
 #include <string.h>
+
+#include "baseline.h"
 
 enum { HEADER = 6, BPSK_OCTET = 120, OQPSK_OCTET = 64 };
 
@@ -196,5 +195,3 @@ lernazhup_reading best_read(uint32_t mode, const uint8_t *chips, size_t chips_le
         memcpy(report, octets, reading.n);
     return reading;
 }
-
-#endif

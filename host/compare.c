@@ -183,6 +183,21 @@ static void try_something(void)
         try_start();
 }
 
+/* Take of a record ended well, of each length, with rooms around it. */
+static void try_taking(uint32_t mode, uint32_t n)
+{
+    lernazhup_receiver record = reference_start(mode).receiver;
+
+    record.ended = LERNAZHUP_DONE;
+    record.length = n;
+    record.taken = (6 + n) * reference_per_octet(mode);
+    memcpy(record.octets, pick_junk(), n);
+    if (n > 0)
+        check_take(record, n - 1);
+    check_take(record, n);
+    check_take(record, n + 1);
+}
+
 /* Every length, in both modes: at the accepted distance, one chip farther in the last symbol, and with rooms at the edge. */
 static void try_every_length(void)
 {
@@ -193,6 +208,7 @@ static void try_every_length(void)
         n = each / 2;
         make_edge_frame(&made, mode, n, 0);
         check_read(mode, made.chips, made.length, n);
+        check_read(mode, made.chips, made.length, n + 1);
         if (n > 0)
             check_read(mode, made.chips, made.length, n - 1);
         check_read(mode, made.chips, made.length - 1, n);
@@ -201,6 +217,8 @@ static void try_every_length(void)
         notes_clear();
         check_write(mode, pick_junk(), n, made.frame);
         check_write(mode, pick_junk(), n, made.frame - 1);
+        check_write(mode, pick_junk(), n, made.frame + 1);
+        try_taking(mode, n);
     }
 }
 
@@ -278,10 +296,8 @@ static void try_huge_lengths(void)
     uint32_t mode;
 
     notes_clear();
-    if (huge != 0) {
-        huge_in = lent_huge(huge + LENT_MAX);
-        huge_out = lent_huge(huge + LENT_MAX);
-    }
+    huge_in = lent_huge(huge + LENT_MAX);
+    huge_out = lent_huge(huge + LENT_MAX);
     if (huge_in == NULL || huge_out == NULL) {
         printf("lengths above 32 bits are left out: no address space for them\n");
         return;
@@ -294,15 +310,31 @@ static void try_huge_lengths(void)
 
 /* ---- The run ---- */
 
+#ifdef __SANITIZE_ADDRESS__
+#define SANITIZED "with"
+#else
+#define SANITIZED "without"
+#endif
+
+/* A number in digits and nothing else: a comma in it would silently make a short run of a long one. */
+static uint64_t number(const char *text)
+{
+    if (*text == 0 || text[strspn(text, "0123456789")] != 0) {
+        fprintf(stderr, "compare: '%s' is not a number\n", text);
+        exit(2);
+    }
+    return strtoull(text, NULL, 10);
+}
+
 int main(int argc, char **argv)
 {
     enum { MANY = 100000 };
-    uint64_t seed = argc > 1 ? strtoull(argv[1], NULL, 10) : (uint64_t)time(NULL) * 1000003 + (uint64_t)getpid();
-    uint64_t wanted_cases = argc > 2 ? strtoull(argv[2], NULL, 10) : 2000000;
+    uint64_t seed = argc > 1 ? number(argv[1]) : (uint64_t)time(NULL) * 1000003 + (uint64_t)getpid();
+    uint64_t wanted_cases = argc > 2 ? number(argv[2]) : 2000000;
     static char again[200];
 
     snprintf(again, sizeof again, "%.100s %" PRIu64 " %" PRIu64, argv[0], seed, wanted_cases);
-    printf("seed %" PRIu64 "; again: %s\n", seed, again);
+    printf("seed %" PRIu64 "; again: %s\nthe C side is built %s the address sanitizer\n", seed, again, SANITIZED);
     fflush(stdout);
     if (!facts_hold())
         return 1;

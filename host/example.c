@@ -1,5 +1,6 @@
 /* An example gateway: a report goes out as chips, the chips are damaged on their way, and the report is read back, whole and
- * symbol by symbol. Then the aerial is pulled in the middle of the frame, and the same calls refuse: a rope that cannot be heard is not a dry one.
+ * symbol by symbol. Then the aerial is pulled in the middle of the frame, and the same calls refuse: a rope that cannot be heard
+ * is not a dry one.
  *   example [MODE]          0 or 1, the default */
 #include <stdio.h>
 #include <stdlib.h>
@@ -76,11 +77,18 @@ static void read_both_ways(const char *when, uint32_t mode, const uint8_t *chips
     read_by_symbol(mode, chips, length, size);
 }
 
+/* A mode number in digits; anything else, and what 32 bits don't hold, is a mode that no radio has. */
+static uint32_t mode_of(const char *text)
+{
+    unsigned long number = strtoul(text, NULL, 10);
+    return text[0] != 0 && text[strspn(text, "0123456789")] == 0 && number <= UINT32_MAX ? (uint32_t)number : UINT32_MAX;
+}
+
 int main(int count, char **arguments)
 {
     static const char text[] = "rope 12 wet";
     static uint8_t chips[LERNAZHUP_CHIPS_MAX];
-    uint32_t mode = count > 1 ? (uint32_t)strtoul(arguments[1], NULL, 10) : 1;
+    uint32_t mode = count > 1 ? mode_of(arguments[1]) : 1;
     size_t size = mode == 0 ? LERNAZHUP_SYMBOL_MODE0 : LERNAZHUP_SYMBOL_MODE1, pulled;
     lernazhup_written out = lernazhup_write(mode, (const uint8_t *)text, strlen(text), chips, sizeof chips);
     if (out.number != LERNAZHUP_DONE) {

@@ -75,16 +75,19 @@ static void words(void)
                 reference_push(reference_start(a).receiver, flat[b], reference_chips(a)).number == LERNAZHUP_LOST);
 }
 
-/* What push answers to the word for 0 with its first chips inverted, at symbol 0. */
+/* What push answers to the word for 0 with its first chips inverted, at symbol 0; FORGED, which it never answers here, where it goes on
+ * with another count than theirs. */
 static uint32_t pushed(uint32_t mode, uint32_t inverted)
 {
     uint8_t part[32];
     uint32_t c;
+    lernazhup_step step;
 
     memcpy(part, reference_word(mode, 0), reference_chips(mode));
     for (c = 0; c < inverted; c++)
         part[c] ^= 1;
-    return reference_push(reference_start(mode).receiver, part, reference_chips(mode)).number;
+    step = reference_push(reference_start(mode).receiver, part, reference_chips(mode));
+    return step.number == LERNAZHUP_MORE && step.receiver.count != inverted ? LERNAZHUP_FORGED : step.number;
 }
 
 static void single_symbols(void)

@@ -120,6 +120,7 @@ static struct contestant contestants[] = {
 #define BOTH(name, read, write, with_noise) ONE(name, read, write, with_noise, 0), ONE(name, read, write, with_noise, 1)
     BOTH("lernazhup_read", lernazhup_read, NULL, 1),
     BOTH("usual_read", usual_read, NULL, 1),
+    BOTH("usual_read, own popcount", usual_own_read, NULL, 1),
     BOTH("lernazhup_read, no errors", lernazhup_read, NULL, 0),
     BOTH("usual_read, no errors", usual_read, NULL, 0),
     BOTH("lernazhup_write", NULL, lernazhup_write, 0),
@@ -127,10 +128,8 @@ static struct contestant contestants[] = {
     BOTH("receiver", stepping_read, NULL, 1),
     BOTH("receiver, no errors", stepping_read, NULL, 0),
     BOTH("record handed on", handing_read, NULL, 0),
-#ifdef __x86_64__
     BOTH("best_read", best_read, NULL, 1),
     BOTH("best_read, no errors", best_read, NULL, 0),
-#endif
 #undef BOTH
 #undef ONE
 };
@@ -312,6 +311,7 @@ static void print_ratios(int repetitions)
     printf("\n| mode | ratio | median of the ratios | ratio of the least times | target for the median | |\n");
     printf("|---|---|---|---|---|---|\n");
     print_ratio("lernazhup_read", "usual_read", 0.60, repetitions);
+    print_ratio("lernazhup_read", "usual_read, own popcount", 0, repetitions);
     print_ratio("lernazhup_write", "copying_write", 1.5, repetitions);
     print_ratio("receiver", "lernazhup_read", 3.0, repetitions);
     print_ratio("record handed on", "lernazhup_read", 0, repetitions);

@@ -2,8 +2,9 @@
  *
  * A call runs on a stack of its own that was painted before; what is no longer paint afterwards was used. The same is done
  * with an empty function of the same shape and taken off, so that arguments, the record's copies on the caller's side and the
- * switch of stacks don't count. Each call gets full frames with as many wrong chips as are accepted, and inputs for every
- * refusal. The program fails if a call exceeds the limit, or if a frame isn't read as it should be. */
+ * switch of stacks don't count. Each call gets full frames with as many wrong chips as are accepted, and inputs that
+ * are refused. A number in the table is what a call takes beyond that empty one. The program fails if a call exceeds the limit, or
+ * if an answer isn't the one that was due. */
 #define _XOPEN_SOURCE 700
 #include <stdio.h>
 #include <stdlib.h>
@@ -239,20 +240,29 @@ static void measure_refusals(uint32_t mode)
     static const uint8_t flat[32] = {0};
     static uint8_t bad[32] = {2};
     const uint8_t *good = part;
+    int open = given.receiver.ended == LERNAZHUP_MORE;
     note(FINISH, mode);
+    expect(step.number, open ? LERNAZHUP_RUNOUT : LERNAZHUP_ENDED, FINISH);
     note(TAKE, mode);
+    expect(reading.number, open ? LERNAZHUP_NOTENDED : LERNAZHUP_DONE, TAKE);
     given.part_len = symbol_chips[mode] - 1;
     note(PUSH, mode);
+    expect(step.number, open ? LERNAZHUP_BADPART : LERNAZHUP_ENDED, PUSH);
     given.part_len = symbol_chips[mode];
     part = flat;
     note(PUSH, mode);
+    expect(step.number, open ? LERNAZHUP_LOST : LERNAZHUP_ENDED, PUSH);
     part = bad;
     note(PUSH, mode);
+    expect(step.number, open ? LERNAZHUP_NOCHIP : LERNAZHUP_ENDED, PUSH);
     part = good;
     given.receiver.length += 128;
     note(PUSH, mode);
+    expect(step.number, LERNAZHUP_FORGED, PUSH);
     note(FINISH, mode);
+    expect(step.number, LERNAZHUP_FORGED, FINISH);
     note(TAKE, mode);
+    expect(reading.number, LERNAZHUP_FORGED, TAKE);
     given.receiver.length -= 128;
 }
 
@@ -307,7 +317,7 @@ int main(void)
         measure_receiver(mode);
     }
     measure_no_radio();
-    printf("| call | bytes of stack, mode 0 | mode 1 | no radio |\n|---|---|---|---|\n");
+    printf("| call | bytes of stack beyond an empty call, mode 0 | mode 1 | no radio |\n|---|---|---|---|\n");
     for (which = 0; which < CALLS; which++) {
         printf("| %s | %lu | %lu | %lu |\n", names[which], (unsigned long)most[which][0], (unsigned long)most[which][1],
                (unsigned long)most[which][2]);

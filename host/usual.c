@@ -7,6 +7,23 @@
 
 #include "baseline.h"
 
+/* Ones in a word. As the compiler gives it this is a function of its library; built with OWN_POPCOUNT, and then under the name
+ * usual_own_read, the usual shifts and adds stand here instead. */
+#ifdef OWN_POPCOUNT
+#define usual_read usual_own_read
+static uint32_t ones(uint32_t word)
+{
+    word -= word >> 1 & 0x55555555;
+    word = (word & 0x33333333) + (word >> 2 & 0x33333333);
+    return ((word + (word >> 4)) & 0x0F0F0F0F) * 0x01010101 >> 24;
+}
+#else
+static uint32_t ones(uint32_t word)
+{
+    return (uint32_t)__builtin_popcount(word);
+}
+#endif
+
 struct radio {
     uint32_t length; /* chips a symbol */
     uint32_t bits;   /* bits a symbol */
@@ -55,7 +72,7 @@ static uint32_t nearest(const struct radio *radio, uint32_t word, uint32_t *dist
 {
     uint32_t best = 0, least = 33, value;
     for (value = 0; value < radio->count; value++) {
-        uint32_t differing = (uint32_t)__builtin_popcount(word ^ radio->words[value]);
+        uint32_t differing = ones(word ^ radio->words[value]);
         if (differing < least) {
             least = differing;
             best = value;

@@ -8,17 +8,18 @@
  *   0     868/915 BPSK      15       6                   720 + 120 n             15,960
  *   1     2450 O-QPSK       32       5                   384 + 64 n               8,512
  *
- * A symbol that is not within the accepted distance of a code word is refused and not guessed: flat chips, all 0 or all 1,
- * are never part of a frame. Every call takes every mode number, every length and every record, ends, and answers one of the
- * numbers below. A refusal leaves every lent byte as it was.
+ * A symbol that is not within the accepted distance of a code word is refused and not guessed: a flat symbol, all 0 or all 1,
+ * is never part of a frame. Every call takes every mode number, every buffer and every record, ends, and answers one of the
+ * numbers below (take repeats the number that ended a record as it stands). A refusal leaves every lent byte as it was.
  *
  * Buffers. A pointer and a length are a buffer: so many bytes, all readable, and writable where the pointer isn't const. A
  * null pointer with length 0 is an empty buffer. No other null pointer may be given, and no two buffers of one call may
  * overlap. A length is at most PTRDIFF_MAX, as of every object in C. Nothing is kept of a buffer after the call, nothing
  * is allocated, and there is no state outside the arguments: calls may run at the same time, each on its own buffers.
  *
- * The functions are proved to meet what is said here, for x86-64. What a caller gives them is checked by nothing but the
- * caller: the rules on buffers are yours to keep. */
+ * What is said here of answers, records and lent bytes is proved; null pointers, the layout of the structs, the stack (under 4
+ * KiB a call) and the lack of allocation are tested. The library is for x86-64. The rules on buffers are checked by nothing:
+ * they are yours to keep. */
 #ifndef LERNAZHUP_H
 #define LERNAZHUP_H
 
@@ -63,13 +64,16 @@ typedef struct {
 /* What the reader and take give back. */
 typedef struct {
     uint32_t number; /* LERNAZHUP_DONE or the refusal */
-    uint32_t place;  /* done: symbols in the frame; refused: the number of the symbol where the first thing was found wrong */
+    uint32_t place;  /* done: symbols in the frame; refused: the number of the symbol where the first thing was found wrong,
+                        or as the function says */
     uint32_t n;      /* octets of the report; 0 on a refusal */
     uint32_t count;  /* chips repaired, over the whole frame; 0 on a refusal */
 } lernazhup_reading;
 
 /* The stepping receiver's record. It goes into each call and comes back from it; nothing else is kept. Its fields may be
- * looked at. A record that these calls don't make is told by its numbers and answered LERNAZHUP_FORGED, as far as they tell. */
+ * looked at. LERNAZHUP_FORGED is for a record that these calls don't make: open or ended well, and with a mode that no radio
+ * has, a length above 127, a count above the accepted distance times the symbols taken, or a number of symbols taken that isn't
+ * below the frame's total (open) or isn't equal to it (ended well); the total is that for the length held. */
 typedef struct {
     uint32_t mode;   /* as given to start */
     uint32_t ended;  /* LERNAZHUP_MORE while open, LERNAZHUP_DONE ended well, else the number of the refusal */
@@ -116,7 +120,7 @@ lernazhup_step lernazhup_push(lernazhup_receiver receiver, const uint8_t *part, 
 lernazhup_step lernazhup_finish(lernazhup_receiver receiver);
 
 /* What a record has come to. It can be asked again.
- * Done: what the reader gives back, with the report at the front of the buffer.
+ * Done: what the reader gives back, with the report at the front of the buffer; later bytes keep their values.
  * LERNAZHUP_FORGED and LERNAZHUP_NOTENDED come with place 0; the number of the refusal that ended the record comes with its
  * place; LERNAZHUP_NOROOM comes with the frame's number of symbols as place. The buffer then stays as it was. */
 lernazhup_reading lernazhup_take(lernazhup_receiver receiver, uint8_t *report, size_t report_len);

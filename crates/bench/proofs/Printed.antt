@@ -1,6 +1,6 @@
 -- What document 01 says that the bench program prints in two cases ("The bench program"), computed of the definition. Assumes nothing.
 use mathlib.Core.Path.{_≡_, refl}
-use mathlib.Core.List.{List, [], _∷_}
+use mathlib.Core.List.{[], _∷_}
 use Rattle.codes.specs.Chips.{distance, bad}
 use Rattle.codes.specs.Radio.{oqpsk, bpskWords, oqpskWord, oqpskWords, turnedWords, turns, turned, oddInverted}
 use Rattle.codes.specs.Symbol.{within, first, valued, symbolOf}
@@ -8,17 +8,17 @@ use Rattle.frame.specs.Frame.{digits, raws, encode, symbols, chipsOf, frame}
 use Rattle.reader.specs.Received.{decode, valueOf, octetsFrom}
 use Rattle.reader.specs.Order.{windows, rules, repaired, concluded, taking, readingFrom, reading}
 use Rattle.reader.specs.Read.{told, answerAt}
-use Rattle.bench.specs.Sheet.{decimalIn, sheetOf}
+use Rattle.bench.specs.Lines.{decimalIn, linesOf}
 
 -- for no input, `0 4 0 0 0` and `1 4 0 0 0`
-pub no-input : sheetOf [] ≡
+pub no-input : linesOf [] ≡
     48 ∷ 32 ∷ 52 ∷ 32 ∷ 48 ∷ 32 ∷ 48 ∷ 32 ∷ 48 ∷ 10 ∷
     49 ∷ 32 ∷ 52 ∷ 32 ∷ 48 ∷ 32 ∷ 48 ∷ 32 ∷ 48 ∷ 10 ∷ []
 unfolding decimalIn told answerAt windows readingFrom reading
 no-input = refl
 
 -- for the mode 1 frame with an empty report, `0 6 1 0 0` and `1 0 12 0 0`
-pub empty-report : sheetOf (frame oqpsk []) ≡
+pub empty-report : linesOf (frame oqpsk []) ≡
     48 ∷ 32 ∷ 54 ∷ 32 ∷ 49 ∷ 32 ∷ 48 ∷ 32 ∷ 48 ∷ 10 ∷
     49 ∷ 32 ∷ 48 ∷ 32 ∷ 49 ∷ 50 ∷ 32 ∷ 48 ∷ 32 ∷ 48 ∷ 10 ∷ []
 unfolding distance bad bpskWords oqpskWord oqpskWords turnedWords turns turned oddInverted within first valued symbolOf

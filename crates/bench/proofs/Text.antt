@@ -9,7 +9,7 @@ use lib.ListN.{length, length-append, take, set}
 use lib.Seq.{take-at, take-suc-set, take-length, length-take-le}
 use borrow.Author.Tests.{lt-ltb, le-ltb}
 use Rattle.io.specs.Digits.{digits, glyph, Fewest}
-use Rattle.bench.specs.Sheet.{decimalIn, decimal, entry}
+use Rattle.bench.specs.Lines.{decimalIn, decimal, entry}
 
 -- a digit below 10
 low : (d : ℕ) → d < 10 → glyph d ≡ 48 + d

@@ -1,2 +1,2 @@
 -- What the bench program prints.
-pub mod Sheet
+pub mod Lines

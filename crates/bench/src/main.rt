@@ -1,6 +1,6 @@
 // The bench program: reads a raw capture from standard input, at most its first 15,960 bytes, tries mode 0 and then mode 1, each with a
 // report buffer of 127 bytes, and prints a line for each: mode, number, place, n, count. The text of both lines is made whole and written
-// once: `sheet` promises every byte of it (specs/Sheet.antt), and `main` only reads and writes. The proofs go through because `io::decimal`
+// once: `lines` promises every byte of it (specs/Lines.antt), and `main` only reads and writes. The proofs go through because `io::decimal`
 // promises a number's digits, `bytes::copy` a copy and the reader its reading, because a number of 32 bits has at most ten digits
 // (`few-digits`), so that 110 bytes are room enough, and because each entry stands behind those before it (proofs/Text.antt).
 ghost use mathlib.Core.Path.{_≡_};
@@ -8,7 +8,7 @@ ghost use mathlib.Core.List.{_++_};
 ghost use Prim.Native.Nat.{_+_, _≤_};
 ghost use lib.ListN.{length, take};
 ghost use Rattle.io.specs.Counts.{Counts};
-ghost use Rattle.bench.specs.Sheet.{most, entry, lineOf, sheetOf};
+ghost use Rattle.bench.specs.Lines.{most, entry, lineOf, linesOf};
 use libc::STDIN_FILENO;
 use libc::STDOUT_FILENO;
 
@@ -23,7 +23,7 @@ fn main() {
         return;
     }
     let mut text = [0u8; 110];
-    let length = sheet(&chips[..count], &mut text);
+    let length = lines(&chips[..count], &mut text);
     if !io::write_all(STDOUT_FILENO, &text[..length]) {
         os::fail(b"standard output");
     }
@@ -44,10 +44,10 @@ fn ended() -> bool {
 }
 
 // Both lines of a capture, at the front of the lent text. Gives back how many bytes they have.
-fn sheet(chips: &[u8], text: &mut [u8]) -> usize
+fn lines(chips: &[u8], text: &mut [u8]) -> usize
     requires { ⌜ 110 ≤ length (now text) ⌝ }
     ensures { λ r. ⌜ Counts r (now (text .exit)) ⌝ }
-    ensures { λ r. ⌜ take r (now (text .exit)) ≡ sheetOf (now (chips .entry)) ⌝ }
+    ensures { λ r. ⌜ take r (now (text .exit)) ≡ linesOf (now (chips .entry)) ⌝ }
 {
     let at = line(0, chips, text, 0);
     line(1, chips, text, at)

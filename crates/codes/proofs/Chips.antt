@@ -6,12 +6,12 @@ use Prim.Native.Nat.{ℕ, zero, suc, _+_, _≤_, _<_}
 use native.Mathlib.Numerals.{add-one}
 use native.Mathlib.Omega.{arith}
 use lib.ListN.{length, getD, take, drop, length-take}
-use lib.Seq.{take-suc, length-take-le, take-all}
+use lib.Seq.{take-suc, length-take-le, take-all, getD-take, getD-drop}
 use lib.Bits.{bitXor}
 use lib.Dec.{eqb, ltb}
 use borrow.Author.Tests.{eqb-true, eqb-false, eq-eqb, ne-eqb, ltb-false, ltb-true, lt-ltb, le-ltb}
 use Rattle.codes.specs.Chips.{pick, differ, distance, bad}
-use Rattle.codes.specs.Matching.{xorSum}
+use Rattle.codes.specs.Matching.{from, xorSum}
 use Rattle.codes.proofs.Tests.{by-test, not-both}
 
 pub differ-same : (x y : ℕ) → x ≡ y → differ x y ≡ 0
@@ -77,6 +77,13 @@ unfolding bad
 bad-append [] ys = refl
 bad-append (x ∷ xs) ys = by-test (ltb 1 x) (λ a. rw a) (λ a. rw a (bad-append xs ys))
 
+-- one byte more
+pub bad-suc : (xs : List ℕ) (k : ℕ) → k < length xs → bad (take (suc k) xs) ≡ pick (bad (take k xs)) true (ltb 1 (getD xs k 0))
+unfolding bad
+bad-suc xs k h =
+    rw (take-suc xs k 0 h, bad-append)
+    (ap (λ (t : Bool). pick (bad (take k xs)) true t) (by-test (ltb 1 (getD xs k 0)) (λ a. rw a) (λ a. rw a)))
+
 -- a part of chips is of chips
 pub bad-take : (n : ℕ) (xs : List ℕ) → bad xs ≡ false → bad (take n xs) ≡ false
 unfolding bad
@@ -96,6 +103,10 @@ unfolding bad
 chip-at [] b k = omega arith
 chip-at (x ∷ xs) b zero = by-test (ltb 1 x) (λ a. not-both true refl (rw a at b)) (λ a. ltb-false 1 x a)
 chip-at (x ∷ xs) b (suc k) = by-test (ltb 1 x) (λ a. not-both true refl (rw a at b)) (λ a. chip-at xs (rw a at b) k)
+
+-- chip k of a window is the list's, at its place
+pub window-chip : (xs : List ℕ) (at size k : ℕ) → k < size → from xs at k ≡ getD (take size (drop at xs)) k 0
+window-chip xs at size k h = rw (getD-take size (drop at xs) k 0 h, getD-drop at xs k 0)
 
 -- of chips, an exclusive or is a difference
 xor-differ : (x y : ℕ) → x ≤ 1 → y ≤ 1 → bitXor x y ≡ differ x y
@@ -132,15 +143,34 @@ pub xor-distance : (xs ys : List ℕ) (n : ℕ) → bad xs ≡ false → bad ys 
 xor-distance xs ys n a b p q s =
     xor-take xs ys a b n (omega arith) (omega arith) s ∙ rw (take-all n xs (omega arith), take-all n ys (omega arith))
 
+-- of three chips, one that differs from another differs from just one of two that differ
+differ-one : (x y z : ℕ) → x ≤ 1 → y ≤ 1 → z ≤ 1 → differ y z ≡ 1 → differ x y + differ x z ≡ 1
+differ-one x y z a b c e =
+    by-test (eqb x y)
+    (λ t. let s = eqb-true x y t in omega (arith, differ-same x y s, ap (λ (w : ℕ). differ w z) s))
+    (λ t.
+    let n = eqb-false x y t in
+    let m : y ≡ z → ⊥ = λ u. omega (arith, differ-same y z u) in
+    omega (arith, differ-other x y n, differ-same x z (omega (arith, n, m))))
+
+-- chips differ from two words that differ in every place in all places together
+pub distance-both : (xs ys zs : List ℕ) → bad xs ≡ false → bad ys ≡ false → bad zs ≡ false → length xs ≡ length ys → length ys ≡ length zs
+    → distance ys zs ≡ length ys → distance xs ys + distance xs zs ≡ length xs
+unfolding distance
+distance-both [] ys zs a b c h j e = refl
+distance-both (x ∷ xs) [] zs a b c h j e = absurd (omega arith)
+distance-both (x ∷ xs) (y ∷ ys) [] a b c h j e = absurd (omega arith)
+distance-both (x ∷ xs) (y ∷ ys) (z ∷ zs) a b c h j e =
+    let l = distance-le ys zs in
+    let d = differ-le y z in
+    let o = differ-one x y z (chip-at (x ∷ xs) a 0) (chip-at (y ∷ ys) b 0) (chip-at (z ∷ zs) c 0) (omega (arith, e, l, d)) in
+    let r = distance-both xs ys zs (bad-drop 1 (x ∷ xs) a) (bad-drop 1 (y ∷ ys) b) (bad-drop 1 (z ∷ zs) c) (omega (arith, h)) (omega (arith, j)) (omega (arith, e, l, d)) in
+    omega (arith, o, r)
+
 -- a turn of the loop that keeps the highest byte so far
 module _ (xs : List ℕ) (k most x : ℕ) (h : k < length xs) (e : x ≡ getD xs k 0) (b : ltb 1 most ≡ bad (take k xs)) where
   bad-more : bad (take (k + 1) xs) ≡ pick (ltb 1 most) true (ltb 1 x)
-  unfolding bad
-  bad-more = rw (add-one, take-suc xs k 0, bad-append, b, ← e) (ap (λ (t : Bool). pick (bad (take k xs)) true t) (same (ltb 1 x)))
-    where
-      same : (t : Bool) → pick t true false ≡ t
-      same true = refl
-      same false = refl
+  bad-more = rw (add-one, bad-suc xs k h, b, e)
 
   pub higher : most < x → ltb 1 x ≡ bad (take (k + 1) xs)
   higher l = by-test (ltb 1 most) (λ a. rw (bad-more, a) (lt-ltb 1 x (omega (arith, ltb-true 1 most a)))) (λ a. rw (bad-more, a))

@@ -1,24 +1,22 @@
 -- What the code computes is what `Symbol` says: the nearest word within the limit is the one word within it. Once over the
--- radio; the last laws are at a mode, for `read_symbol`. Assumes nothing.
+-- radio; the last laws are at a mode, for `read_symbol` and for whoever lends the table. Assumes nothing.
 use mathlib.Core.Path.{_≡_, sym, ap, _∙_}
 use mathlib.Core.Bool.{true, false}
 use mathlib.Core.List.{List}
 use Prim.Native.Nat.{ℕ, _+_, _≤_, _<_}
 use native.Mathlib.Omega.{arith}
 use lib.ListN.{length, getD, take, drop, length-take, length-drop}
-use lib.Seq.{getD-take, getD-drop}
 use lib.Dec.{eqb, ltb, leb}
 use borrow.Author.Tests.{leb-true, leb-false, ltb-false, eqb-true}
 use Rattle.codes.specs.declared.Nearest.{Nearest}
-use Rattle.codes.specs.Numbers.{RUNOUT}
-use Rattle.codes.specs.Chips.{pick, distance, bad}
+use Rattle.codes.specs.Chips.{distance, bad}
 use Rattle.codes.specs.Radio.{Radio, word, Sound, known, radioOf}
-use Rattle.codes.specs.Symbol.{refused, symbolOf, symbolAt}
+use Rattle.codes.specs.Symbol.{symbolOf, symbolAt}
 use Rattle.codes.specs.Lent.{tableOf, tableAt}
-use Rattle.codes.specs.Matching.{from, sumTo, nearestOf, judged, matchIn, lentTo, matchedAt}
+use Rattle.codes.specs.Matching.{sumTo, nearestOf, judged, matchIn, tableFor, matchedAt}
 use Rattle.codes.proofs.Tests.{by-test}
 use Rattle.codes.proofs.Modes.{each-row}
-use Rattle.codes.proofs.Chips.{xor-cong, xor-distance}
+use Rattle.codes.proofs.Chips.{window-chip, xor-cong, xor-distance}
 use Rattle.codes.proofs.Unique.{symbol-of, lost-of, nochip-of}
 use Rattle.codes.proofs.Rows.{chip-of}
 use Rattle.codes.proofs.Least.{least, attained}
@@ -37,14 +35,12 @@ module _ (r : Radio) (S : Sound r) (small : r .size < 256) (low : r .limit < 255
   long : length window ≡ r .size
   long = simp (length-take, length-drop) (omega arith)
 
-  chip-in : (i : ℕ) → i < r .size → from chips at i ≡ getD window i 0
-  chip-in i h = sym (getD-take (r .size) (drop at chips) i 0 h ∙ getD-drop at chips i 0)
-
   module _ (b : bad window ≡ false) where
-    sum-distance : (v : ℕ) → v < length (r .words) → sums v ≡ distance window (word r v)
+    -- the sums are the distances
+    pub sum-distance : (v : ℕ) → v < length (r .words) → sums v ≡ distance window (word r v)
     unfolding tableOf sumTo
     sum-distance v h =
-        xor-cong _ (λ i. getD window i 0) _ (λ i. getD (word r v) i 0) (r .size) chip-in (λ i l. chip-of (r .size) (r .words) _ (S .sized) v i h l)
+        xor-cong _ (λ i. getD window i 0) _ (λ i. getD (word r v) i 0) (r .size) (window-chip chips at (r .size)) (λ i l. chip-of (r .size) (r .words) _ (S .sized) v i h l)
         ∙ xor-distance window (word r v) (r .size) b (S .chips v h) long (S .sized v h) small
 
     judged-symbol : judged (r .limit) (nearestOf sums (length (r .words))) ≡ symbolOf r window
@@ -82,11 +78,11 @@ table-symbol mode k chips at =
 
 -- At any mode and place, with the mode's own table lent, so is `matchedAt`.
 pub matched-symbol : (mode : ℕ) (table chips : List ℕ) (at : ℕ) → table ≡ tableAt mode → matchedAt mode table chips at ≡ symbolAt mode chips at
-unfolding matchedAt symbolAt lentTo
+unfolding matchedAt symbolAt tableFor
 matched-symbol mode table chips at t =
     by-test (known mode)
     (λ k. rw (k, own-table) (table-symbol mode k chips at ∙ rw k))
     (λ k. rw k)
   where
-    own-table : lentTo mode table ≡ tableAt mode
+    own-table : tableFor mode table ≡ tableAt mode
     own-table = by-test (eqb mode 0) (λ z. rw z (ap tableAt (sym (eqb-true mode 0 z)))) (λ z. rw z t)

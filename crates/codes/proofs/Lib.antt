@@ -10,7 +10,7 @@ pub mod Rows
 pub mod Least
 pub mod Facts
 pub mod Lent
-pub mod Bits
 pub mod Rule
 pub mod Equal
+pub mod Bits
 pub mod Settled

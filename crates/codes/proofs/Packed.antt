@@ -11,17 +11,17 @@ use lib.Arith.{digits-lt}
 use lib.Pow.{pow-add, pow-pos, shl-exact, high, low}
 use lib.Bits.{bitAnd, bitOr, bitXor, or-shifted-r, xor-lt, xor-block, and-block, and-high}
 use lib.ListN.{length, getD, take, drop, length-drop}
-use lib.Seq.{take-suc, take-add, drop-drop, getD-take, getD-drop}
+use lib.Seq.{take-add, take-take, drop-drop, getD-drop}
 use lib.Dec.{eqb, ltb, eqb·suc-zero}
 use borrow.Author.Tests.{ltb-true, ltb-false, lt-ltb, le-ltb}
 use Rattle.codes.specs.Chips.{pick, bad}
 use Rattle.codes.specs.Matching.{from, xorSum}
 use Rattle.codes.specs.Packed.{packed, digitSum}
-use Rattle.codes.proofs.Tests.{by-test, not-both}
-use Rattle.codes.proofs.Chips.{bad-append, chip-at, xor-cong}
+use Rattle.codes.proofs.Tests.{by-test}
+use Rattle.codes.proofs.Chips.{bad-append, bad-suc, bad-take, chip-at, window-chip, xor-cong}
 
 -- every digit is a byte
-abbrev pub Bytes : (ℕ → ℕ) → Type 0
+abbrev Bytes : (ℕ → ℕ) → Type 0
 Bytes f = (i : ℕ) → f i < 256
 
 -- one digit more is eight bits more
@@ -91,8 +91,7 @@ module _ (xs : List ℕ) (f : ℕ → ℕ) (b : Bytes f) (e : (i : ℕ) → f i 
   unfolding packed bad
   mask-bad zero h = refl
   mask-bad (suc k) h =
-      rw (digit-above, mask-bad k (omega arith), mask-chip (f k) (b k), e k, take-suc xs k 0 (omega arith), bad-append)
-      (by-test (ltb 1 (getD xs k 0)) (λ t. rw t) (λ t. rw t))
+      rw (digit-above, mask-bad k (omega arith), mask-chip (f k) (b k), e k, bad-suc xs k (omega arith))
 
 -- `bad_eight`, at the number that it packs
 pub eight-bad : (chips : List ℕ) (at x : ℕ) → at + 8 ≤ length chips → Bytes (from chips at) → x ≡ packed (from chips at) 8
@@ -117,7 +116,7 @@ module _ (xs : List ℕ) (n m : ℕ) where
 
   -- of n + m chips the first n are chips
   good-early : bad (take (n + m) xs) ≡ false → bad (take n xs) ≡ false
-  good-early t = by-test (bad (take n xs)) (λ u. not-both (bad (take (n + m) xs)) (bad-early u) t) (λ u. u)
+  good-early t = rw (take-take n (n + m) xs (omega arith)) at (bad-take n (take (n + m) xs) t)
 
 -- `any_bad`, whose second eight begins with the last of the first
 module _ (chips : List ℕ) (at : ℕ) (r : Bool) (e : r ≡ bad (take 8 (drop at chips))) where
@@ -149,7 +148,7 @@ halves : (a b : ℕ) → a < 2 ^ 32 → (b * 2 ^ 32 + a) % 2 ^ 32 + (b * 2 ^ 32 
 halves a b h = rw (high b 32 h, low b 32 h)
 
 -- the sum of k numbers
-unfoldable pub total : (ℕ → ℕ) → ℕ → ℕ
+unfoldable total : (ℕ → ℕ) → ℕ → ℕ
 total h zero = 0
 total h (suc k) = total h k + h k
 
@@ -182,7 +181,7 @@ module _ (h : ℕ → ℕ) (b : (i : ℕ) → h i ≤ 1) where
       ∙ omega arith)
 
 -- the exclusive ors of two windows
-abbrev pub xors : (ℕ → ℕ) → (ℕ → ℕ) → ℕ → ℕ
+abbrev xors : (ℕ → ℕ) → (ℕ → ℕ) → ℕ → ℕ
 xors f g i = bitXor (f i) (g i)
 
 module _ (f g : ℕ → ℕ) (b : (i : ℕ) → f i ≤ 1) (d : (i : ℕ) → g i ≤ 1) where
@@ -191,13 +190,13 @@ module _ (f g : ℕ → ℕ) (b : (i : ℕ) → f i ≤ 1) (d : (i : ℕ) → g 
   xors-le i = omega (arith, xor-lt 1 (f i) (g i) (omega (arith, b i)) (omega (arith, d i)))
 
   -- so the sum of k of them is at most k
-  pub total-le : (k : ℕ) → total (xors f g) k ≤ k
+  total-le : (k : ℕ) → total (xors f g) k ≤ k
   unfolding total
   total-le zero = omega arith
   total-le (suc k) = omega (arith, total-le k, xors-le k)
 
   -- and a byte holds the sum of fewer than 256
-  pub xor-total : (k : ℕ) → k < 256 → xorSum f g k ≡ total (xors f g) k
+  xor-total : (k : ℕ) → k < 256 → xorSum f g k ≡ total (xors f g) k
   unfolding total xorSum
   xor-total zero h = refl
   xor-total (suc k) h = rw (xor-total k (omega arith)) (omega (arith, total-le k, xors-le k))
@@ -211,13 +210,13 @@ module _ (f g : ℕ → ℕ) (b : (i : ℕ) → f i ≤ 1) (d : (i : ℕ) → g 
       )
 
 -- fifteen bytes from a place on, and 0 after them, so that they are chips at every index
-abbrev pub window : List ℕ → ℕ → ℕ → ℕ
+abbrev window : List ℕ → ℕ → ℕ → ℕ
 window xs at i = getD (take 15 (drop at xs)) i 0
 
 module _ (xs : List ℕ) (at : ℕ) where
   -- the fifteen are the list's
-  pub inside : (i : ℕ) → i < 15 → from xs at i ≡ window xs at i
-  inside i h = rw (getD-take 15 (drop at xs) i 0 h, getD-drop at xs i 0)
+  inside : (i : ℕ) → i < 15 → from xs at i ≡ window xs at i
+  inside i h = window-chip xs at 15 i h
 
   -- and so are the first eight
   first-eight : packed (from xs at) 8 ≡ packed (window xs at) 8
@@ -228,29 +227,32 @@ module _ (xs : List ℕ) (at : ℕ) where
   last-eight =
       packed-cong (from xs (at + 7)) (λ i. window xs at (7 + i)) 8 (λ i l. rw (add-assoc at 7 i) (inside (7 + i) (omega arith)))
 
--- `apart`, at the four numbers that it packs
+-- the sum that `fifteen::apart` makes of the eights of chips and of a word
 module _ (words chips : List ℕ) (row at : ℕ)
-    (p : bad (take 15 (drop row words)) ≡ false) (q : bad (take 15 (drop at chips)) ≡ false)
-    (x y u v : ℕ) (ex : x ≡ packed (from chips at) 8) (ey : y ≡ packed (from words row) 8)
-    (eu : u ≡ packed (from chips (at + 7)) 8) (ev : v ≡ packed (from words (row + 7)) 8) where
-  -- what it adds is fifteen exclusive ors in one number
-  added : bitXor x y + bitXor u v / 256 ≡ both (xors (window chips at) (window words row))
-  added =
-      rw (ex ∙ first-eight chips at, ey ∙ first-eight words row, eu ∙ last-eight chips at, ev ∙ last-eight words row)
-      (xors-both (window chips at) (window words row) (chip-at _ q) (chip-at _ p))
-
-  -- each of them 0 or 1
+    (p : bad (take 15 (drop row words)) ≡ false) (q : bad (take 15 (drop at chips)) ≡ false) where
+  -- each of the fifteen exclusive ors is 0 or 1
   added-le : (i : ℕ) → xors (window chips at) (window words row) i ≤ 1
   added-le = xors-le (window chips at) (window words row) (chip-at _ q) (chip-at _ p)
 
-  -- the sum of the eights does not wrap
-  pub apart-fits : bitXor x y + bitXor u v / 256 < 2 ^ 64
-  apart-fits = rw added (both-fits (xors (window chips at) (window words row)) added-le)
+  -- and their sum is the contract's
+  row-total : xorSum (from chips at) (from words row) 15 ≡ total (xors (window chips at) (window words row)) 15
+  row-total =
+      xor-cong (from chips at) (window chips at) (from words row) (window words row) 15 (inside chips at) (inside words row)
+      ∙ xor-total (window chips at) (window words row) (chip-at _ q) (chip-at _ p) 15 (omega arith)
 
-  -- and the sum of its digits is the contract's
-  pub apart-sum : digitSum (bitXor x y + bitXor u v / 256) ≡ xorSum (from chips at) (from words row) 15
-  apart-sum =
-      rw added
-      (both-sum (xors (window chips at) (window words row)) added-le
-      ∙ sym (xor-total (window chips at) (window words row) (chip-at _ q) (chip-at _ p) 15 (omega arith))
-      ∙ sym (xor-cong (from chips at) (window chips at) (from words row) (window words row) 15 (inside chips at) (inside words row)))
+  module _ (x y u v : ℕ) (ex : x ≡ packed (from chips at) 8) (ey : y ≡ packed (from words row) 8)
+      (eu : u ≡ packed (from chips (at + 7)) 8) (ev : v ≡ packed (from words (row + 7)) 8) where
+    -- what it adds is fifteen exclusive ors in one number
+    added : bitXor x y + bitXor u v / 256 ≡ both (xors (window chips at) (window words row))
+    added =
+        rw (ex ∙ first-eight chips at, ey ∙ first-eight words row, eu ∙ last-eight chips at, ev ∙ last-eight words row)
+        (xors-both (window chips at) (window words row) (chip-at _ q) (chip-at _ p))
+
+    -- the sum of the eights does not wrap
+    pub apart-fits : bitXor x y + bitXor u v / 256 < 2 ^ 64
+    apart-fits = rw added (both-fits (xors (window chips at) (window words row)) added-le)
+
+    -- and the sum of its digits is the contract's
+    pub apart-sum : digitSum (bitXor x y + bitXor u v / 256) ≡ xorSum (from chips at) (from words row) 15
+    apart-sum =
+        rw added (both-sum (xors (window chips at) (window words row)) added-le ∙ sym row-total)

@@ -43,11 +43,11 @@ matchIn size count limit table chips at =
     (pick (bad (take size (drop at chips))) (refused NOCHIP) (judged limit (nearestOf (sumTo table chips at size) count)))
 
 -- the table that a mode is matched with: mode 0's is its own, whatever is lent
-unfoldable pub lentTo : ℕ → List ℕ → List ℕ
-lentTo mode table = pick (eqb mode 0) (tableAt 0) table
+unfoldable pub tableFor : ℕ → List ℕ → List ℕ
+tableFor mode table = pick (eqb mode 0) (tableAt 0) table
 
 unfoldable pub matchedAt : ℕ → List ℕ → List ℕ → ℕ → Symbol
 matchedAt mode table chips at =
     pick (known mode)
-    (matchIn (radioOf mode .size) (length (radioOf mode .words)) (radioOf mode .limit) (lentTo mode table) chips at)
+    (matchIn (radioOf mode .size) (length (radioOf mode .words)) (radioOf mode .limit) (tableFor mode table) chips at)
     (refused BADMODE)

@@ -13,7 +13,8 @@ ghost use Rattle.codes.specs.Packed.{packed, digitSum};
 
 // The distance of fifteen chips from the word of a bit, as a sum of exclusive ors. The first word stands here as two numbers and is
 // not read from the table: a table just made lies in memory in pieces of other sizes, and a load that spans them waits. The division
-// takes chip 7 out of the second eight, since the first has it. The two words differ in all fifteen chips.
+// takes chip 7 out of the second eight, since the first has it. The two words differ in all fifteen chips, so the distance from
+// the second is what is left of fifteen.
 pub fn apart(bit: u32, chips: &[u8], at: usize) -> u8
     requires { ⌜ (bit < 2) × (at + 15 ≤ length (now chips)) × (bad (take 15 (drop at (now chips))) ≡ false) ⌝ }
     ensures { λ r. ⌜ r ≡ sumTo (tableAt 0) (now (chips .entry)) at 15 bit ⌝ }

@@ -115,7 +115,8 @@ pub fn matched(mode: u32, words: &[u8; 512], chips: &[u8], at: usize) -> Symbol
     refusal(BADMODE)
 }
 
-// A symbol of mode 0. Its table is made of constants and read at constant places, so nothing of it is left in the machine code.
+// A symbol of mode 0. The table is lent for the contract's sake: words of fifteen chips are not read from it (fifteen.rt), so nothing of
+// it is left in the machine code.
 fn read_bit(chips: &[u8], at: usize) -> Symbol
     ensures { λ r. ⌜ r ≡ matchIn 15 2 6 (tableAt 0) (now (chips .entry)) at ⌝ }
 {
@@ -171,7 +172,7 @@ fn nearest_word(size: usize, count: u32, words: &[u8; 512], chips: &[u8], at: us
 }
 
 // The sum of exclusive ors of word v, whose row is lent, and the chips from a place on: the distance, where both are of chips. A sum of a
-// byte's width is what the back end turns into vector sums, but not over fifteen bytes.
+// byte's width is what the back end turns into vector sums, but poorly over fifteen bytes.
 fn apart(size: usize, v: u32, words: &[u8; 512], row: usize, chips: &[u8], at: usize) -> u8
     requires { ⌜ (row ≡ v * size) × (row + size ≤ 512) × (at + size ≤ length (now chips)) × (size ≡ 15 → (v < 2) × (now words ≡ tableAt 0)) × (bad (take size (drop at (now chips))) ≡ false) ⌝ }
     ensures { λ r. ⌜ r ≡ sumTo (now (words .entry)) (now (chips .entry)) at size v ⌝ }

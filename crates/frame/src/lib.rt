@@ -4,7 +4,7 @@
 ghost use mathlib.Core.Path.{_≡_};
 ghost use mathlib.Core.Bool.{true};
 ghost use Prim.Native.Nat.{_+_, _*_, _/_, _%_, _^_, _≤_, _<_};
-ghost use lib.ListN.{length, getD, take, drop};
+ghost use lib.ListN.{length, getD, drop};
 ghost use lib.Seq.{paste};
 ghost use Rattle.codes.specs.Radio.{known, radioOf, word};
 ghost use Rattle.codes.specs.Lent.{tableAt};
@@ -125,7 +125,9 @@ fn put_symbol(mode: u32, words: &[u8; 512], v: u8, out: &mut [u8], at: usize)
 {
     let row = v as usize;
     if mode == 0 {
-        let word = fifteen(words, row * 15);
+        // all fifteen are read before the first is stored, so the back end stores eight at a time
+        let mut word = [0u8; 15];
+        put_word(words, row * 15, 15, &mut word, 0);
         put_word(&word, 0, 15, out, at);
     } else {
         put_word(words, row * 32, 32, out, at);
@@ -142,20 +144,6 @@ fn put_word(words: &[u8], row: usize, size: usize, out: &mut [u8], at: usize)
         out[at + k] = words[row + k];
         k += 1;
     }
-}
-
-// A word of fifteen chips, taken aside: with all of them read before the first is stored, the back end stores eight at a time.
-fn fifteen(words: &[u8; 512], row: usize) -> [u8; 15]
-    requires { ⌜ (row + 15 ≤ 512) × (length (now words) ≡ 512) ⌝ }
-    ensures { λ r. ⌜ r ≡ take 15 (drop row (now (words .entry))) ⌝ }
-{
-    let mut word = [0u8; 15];
-    let mut k: usize = 0;
-    while k < 15 {
-        word[k] = words[row + k];
-        k += 1;
-    }
-    word
 }
 
 // The symbol sent for a raw one after the symbol `last`.

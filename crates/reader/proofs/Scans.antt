@@ -1,12 +1,11 @@
 -- One symbol more at a mode, for the stepping receiver, and the laws of the reader's loop at a mode, over what the functions that it
 -- calls promise. Assumes nothing.
 use mathlib.Core.Path.{_≡_, refl, sym, ap, _∙_}
-use mathlib.Core.Bool.{true, false}
+use mathlib.Core.Bool.{true}
 use mathlib.Core.List.{List, []}
 use Prim.Native.Nat.{ℕ, suc, _+_, _-_, _≤_, _<_}
 use native.Mathlib.Omega.{arith}
 use lib.ListN.{length, getD, take, drop}
-use lib.Seq.{getD-take, getD-drop}
 use borrow.Author.Tests.{le-ltb}
 use lib.Dec.{eqb}
 use Rattle.codes.specs.Numbers.{DONE, NOCHIP}
@@ -18,7 +17,7 @@ use Rattle.codes.specs.Matching.{matchedAt}
 use Rattle.codes.specs.declared.Symbol.{Symbol}
 use Rattle.codes.proofs.Tests.{by-test}
 use Rattle.codes.proofs.Modes.{each-row, size-known}
-use Rattle.codes.proofs.Chips.{chip-at}
+use Rattle.codes.proofs.Chips.{chip-at, window-chip}
 use Rattle.codes.proofs.Facts.{sound}
 use Rattle.codes.proofs.Equal.{matched-symbol}
 use Rattle.reader.specs.declared.Hand.{Hand}
@@ -58,7 +57,7 @@ symbol-followed mode m ws octets h L next g e =
 pub bad-byte : (chips : List ℕ) (at size k : ℕ) → k < size → 1 < getD chips (at + k) 0 → bad (take size (drop at chips)) ≡ true
 bad-byte chips at size k h b =
     by-test (bad (take size (drop at chips))) (λ t. t)
-    (λ f. absurd (omega (arith, chip-at (take size (drop at chips)) f k, getD-take size (drop at chips) k 0 h, getD-drop at chips k 0)))
+    (λ f. absurd (omega (arith, chip-at (take size (drop at chips)) f k, window-chip chips at size k h)))
 
 pub size-positive : (mode size : ℕ) → known mode ≡ true → size ≡ sizeAt mode → 0 < size
 size-positive mode size m e = rw (e ∙ size-known mode m) (size-pos (radioOf mode) (sound mode))

@@ -48,8 +48,8 @@ pub fn read(mode: u32, chips: &[u8], report: &mut [u8]) -> Reading
 }
 
 // The reading order over the buffer. Matching tests a symbol's bytes without an exit, so that nothing keeps the back end from looking at
-// many at a time; only where one is no chip does the loop over chips run, which then leaves at it. A refusal leaves the
-// loops with the hand's number and place. `keep` stands before the last test, so that the frame's last octet is kept too.
+// many at a time; only where one is no chip does the loop over chips run, which then leaves at it. That answers what `follow` would
+// answer too: the loop is the document's form for this place. A refusal leaves the loops with the hand's number and place. `keep` stands before the last test, so that the frame's last octet is kept too.
 fn scan(mode: u32, chips: &[u8], room: usize, octets: &mut [u8; 127]) -> Hand
     requires { ⌜ (known mode ≡ true) × (length (now octets) ≡ 127) ⌝ }
     ensures { λ r. ⌜ Tells (radioOf mode) room (reading (radioOf mode) room (now (chips .entry))) (now (octets .exit)) r ⌝ }

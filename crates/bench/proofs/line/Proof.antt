@@ -6,7 +6,7 @@ use lib.ListN.{take}
 use borrow.Author.Needs.{needs}
 use Rattle.frame.specs.Outcome.{Outcome}
 use Rattle.reader.specs.declared.Reading.{Reading}
-use Rattle.bench.specs.Sheet.{line}
+use Rattle.bench.specs.Lines.{line}
 use Rattle.bench.proofs.Text.{five}
 use Rattle.bench.proofs.line.Statement.{statement}
 use Rattle.bench.proofs.line.Tie as tie

@@ -7,7 +7,6 @@ use Rattle.codes.specs.Matching.{from, xorSum, sumTo}
 use borrow.Author.Needs.{needs}
 use Rattle.codes.proofs.apart.Statement.{statement}
 use Rattle.codes.proofs.apart.Tie as tie
-use Rattle.std.proofs.num.wrapping_add_u8.Reads as wrapping-add-u8-reads
 
 abbrev Inv-loop : tie.InvT-loop
 Inv-loop size v words row chips at d₀ k₀ d k = (k ≤ size) × (d ≡ xorSum (from chips at) (from words row) k)

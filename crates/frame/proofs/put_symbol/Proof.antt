@@ -1,33 +1,38 @@
 -- `put_symbol` meets its contract: the row that it copies is the symbol's word. Assumes nothing.
 use mathlib.Core.Path.{_∙_}
+use mathlib.Core.List.{append-nil}
+use native.Mathlib.Omega.{arith}
 use Rattle.codes.proofs.Modes.{second}
 use Rattle.frame.proofs.Words.{word-put, aside-put, word-fits}
 use borrow.Author.Needs.{needs}
 use Rattle.frame.proofs.put_symbol.Statement.{statement}
 use Rattle.frame.proofs.put_symbol.Tie as tie
 
-mul-fifteen : tie.Need-mul-fifteen
-mul-fifteen c = search needs
-
-fifteen-requires : tie.Need-fifteen-requires
-fifteen-requires c κs =
-    let s = c .before .before in
-    let f = word-fits _ (s .pre .0) _ (s .pre .1) _ (s .pre .2) 15 (rw (c .if1 .taken)) _ _ (s .pre .3) in
-    (f .0, f .1)
+mul-put-word : tie.Need-mul-put-word
+mul-put-word c = search needs
 
 slice-aggregate-put-word : tie.Need-slice-aggregate-put-word
 slice-aggregate-put-word c = search needs
 
 put-word-requires : tie.Need-put-word-requires
 put-word-requires c κs =
-    let s = c .before .before .before .before .before in
-    (search needs, word-fits _ (s .pre .0) _ (s .pre .1) _ (s .pre .2) 15 (rw (c .before .before .before .if1 .taken)) _ _ (s .pre .3) .2)
+    let s = c .before .before .before .before in
+    let f = word-fits _ (s .pre .0) _ (s .pre .1) _ (s .pre .2) 15 (rw (c .before .before .if1 .taken)) _ _ (s .pre .3) in
+    (omega (arith, f .0, f .1), omega arith)
 
-mul-put-word : tie.Need-mul-put-word
-mul-put-word c = search needs
+slice-aggregate-put-word-2 : tie.Need-slice-aggregate-put-word-2
+slice-aggregate-put-word-2 c = search needs
 
 put-word-requires-2 : tie.Need-put-word-requires-2
 put-word-requires-2 c κs =
+    let s = c .before .before .before .before .before .before .before .before in
+    (search needs, word-fits _ (s .pre .0) _ (s .pre .1) _ (s .pre .2) 15 (rw (c .before .before .before .before .before .before .if1 .taken)) _ _ (s .pre .3) .2)
+
+mul-put-word-2 : tie.Need-mul-put-word-2
+mul-put-word-2 c = search needs
+
+put-word-requires-3 : tie.Need-put-word-requires-3
+put-word-requires-3 c κs =
     let s = c .before .before .before .before in
     let f = word-fits _ (s .pre .0) _ (s .pre .1) _ (s .pre .2) 32 (rw (second _ (s .pre .0) (c .before .before .if1 .left))) _ _ (s .pre .3) in
     (rw (f .1) (f .0), f .2)
@@ -37,9 +42,9 @@ same-length c = search needs
 
 returns : tie.Need-returns
 returns c =
-    let s = c .before .before .before .before .before .before .before .before in
-    c .before .before .put-word .ensures
-    ∙ aside-put _ (s .pre .0) _ (s .pre .1) _ (s .pre .2) 15 (rw (c .before .before .before .before .before .before .if1 .taken)) _ (c .before .before .before .before .before .fifteen .ensures) _ _
+    let s = c .before .before .before .before .before .before .before .before .before .before .before in
+    c .before .before .put-word2 .ensures
+    ∙ aside-put _ (s .pre .0) _ (s .pre .1) _ (s .pre .2) 15 (rw (c .before .before .before .before .before .before .before .before .before .if1 .taken)) _ (c .before .before .before .before .before .before .put-word .ensures ∙ append-nil _) _ _
 
 same-length-2 : tie.Need-same-length-2
 same-length-2 c = search needs
@@ -47,18 +52,19 @@ same-length-2 c = search needs
 returns-2 : tie.Need-returns-2
 returns-2 c =
     let s = c .before .before .before .before .before .before .before in
-    c .before .before .put-word2 .ensures ∙ word-put _ (s .pre .0) _ (s .pre .1) _ (s .pre .2) 32 (rw (second _ (s .pre .0) (c .before .before .before .before .before .if1 .left))) _ _
+    c .before .before .put-word3 .ensures ∙ word-put _ (s .pre .0) _ (s .pre .1) _ (s .pre .2) 32 (rw (second _ (s .pre .0) (c .before .before .before .before .before .if1 .left))) _ _
 
 pub put-symbol-spec : {M : Type 1} → statement M
 put-symbol-spec =
     tie.close
     (tie.spec
-    mul-fifteen
-    fifteen-requires
+    mul-put-word
     slice-aggregate-put-word
     put-word-requires
-    mul-put-word
+    slice-aggregate-put-word-2
     put-word-requires-2
+    mul-put-word-2
+    put-word-requires-3
     same-length
     returns
     same-length-2

@@ -1,12 +1,10 @@
 -- `scan` meets its contract: what is still to be read stays the reading's answer (Scanning.antt). Assumes nothing.
 use Prim.Native.Nat.{_+_, _-_, _≤_}
-use mathlib.Core.Path.{_≡_, refl, sym, ap, _∙_}
-use mathlib.Core.Bool.{false}
+use mathlib.Core.Path.{_≡_, refl, ap, _∙_}
 use mathlib.Core.Logic.{⊎-elim}
 use native.Mathlib.Omega.{arith}
-use lib.ListN.{length, take, drop}
+use lib.ListN.{length}
 use Rattle.codes.specs.Numbers.{NOCHIP}
-use Rattle.codes.specs.Chips.{bad}
 use Rattle.codes.specs.Radio.{radioOf}
 use Rattle.reader.specs.Taking.{stopped}
 use Rattle.reader.proofs.Scanning.{Scanning, Turning}

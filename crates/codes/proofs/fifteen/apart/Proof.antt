@@ -18,7 +18,7 @@ eight-requires-2 c κs = search needs
 add-digit-sum : tie.Need-add-digit-sum
 add-digit-sum c =
     let s = c .before .before .before in
-    omega (arith, bit-fits (s .args .chips .now) (s .args .at) (s .pre .2) _ _ (c .before .eight .ensures) (c .eight2 .ensures))
+    omega (arith, bit-fits (s .args .chips .now) (s .args .at) (s .pre .1) (s .pre .2) _ _ (c .before .eight .ensures) (c .eight2 .ensures))
 
 digit-sum-requires : tie.Need-digit-sum-requires
 digit-sum-requires c κs = search needs
@@ -27,20 +27,20 @@ sub-result : tie.Need-sub-result
 sub-result c =
     let b = c .before .before in
     let s = b .before .before .before in
-    bit-few (s .args .chips .now) (s .args .at) (s .pre .2) _ _ (b .before .eight .ensures) (b .eight2 .ensures) _ (c .before .digit-sum .ensures)
+    bit-few (s .args .chips .now) (s .args .at) (s .pre .1) (s .pre .2) _ _ (b .before .eight .ensures) (b .eight2 .ensures) _ (c .before .digit-sum .ensures)
 
 returns : tie.Need-returns
 returns c =
     let b = c .before .before in
     let s = b .before .before .before in
-    rw (c .if1 .taken) (bit-zero (s .args .chips .now) (s .args .at) (s .pre .2) _ _ (b .before .eight .ensures) (b .eight2 .ensures) _ (c .before .digit-sum .ensures))
+    rw (c .if1 .taken) (bit-zero (s .args .chips .now) (s .args .at) (s .pre .1) (s .pre .2) _ _ (b .before .eight .ensures) (b .eight2 .ensures) _ (c .before .digit-sum .ensures))
 
 returns-2 : tie.Need-returns-2
 returns-2 c =
     let b = c .before .before in
     let s = b .before .before .before in
     let e : s .args .bit ≡ 1 = omega (arith, s .pre .0, c .if1 .left) in
-    rw e (bit-one (s .args .chips .now) (s .args .at) (s .pre .2) _ _ (b .before .eight .ensures) (b .eight2 .ensures) _ (c .before .digit-sum .ensures))
+    rw e (bit-one (s .args .chips .now) (s .args .at) (s .pre .1) (s .pre .2) _ _ (b .before .eight .ensures) (b .eight2 .ensures) _ (c .before .digit-sum .ensures))
 
 pub apart-spec : {M : Type 1} → statement M
 apart-spec =

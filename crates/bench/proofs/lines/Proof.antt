@@ -1,4 +1,4 @@
--- `sheet` meets its contract: the second line stands behind the first. Assumes nothing.
+-- `lines` meets its contract: the second line stands behind the first. Assumes nothing.
 use Prim.Native.Nat.{ℕ, _≤_}
 use mathlib.Core.Path.{ap, _∙_}
 use mathlib.Core.List.{List, _++_}
@@ -6,9 +6,9 @@ use native.Mathlib.Omega.{arith}
 use lib.ListN.{length}
 use borrow.Author.Needs.{needs}
 use Rattle.io.proofs.Counting.{counts}
-use Rattle.bench.specs.Sheet.{lineOf}
-use Rattle.bench.proofs.sheet.Statement.{statement}
-use Rattle.bench.proofs.sheet.Tie as tie
+use Rattle.bench.specs.Lines.{lineOf}
+use Rattle.bench.proofs.lines.Statement.{statement}
+use Rattle.bench.proofs.lines.Tie as tie
 
 line-requires : tie.Need-line-requires
 line-requires c κs = search needs
@@ -27,5 +27,5 @@ returns c =
     let fits : second .line2 .result ≤ length (second .line2 .last .1 .1 .0) = omega (arith, s .pre) in
     (counts _ _ fits, second .line2 .ensures .1 ∙ ap (λ (z : List ℕ). z ++ lineOf 1 (s .args .chips .now)) (first .line .ensures .1))
 
-pub sheet-spec : {M : Type 1} → statement M
-sheet-spec = tie.close (tie.spec line-requires line-requires-2 same-length returns)
+pub lines-spec : {M : Type 1} → statement M
+lines-spec = tie.close (tie.spec line-requires line-requires-2 same-length returns)

@@ -32,5 +32,5 @@ abbrev pub lineOf : ℕ → List ℕ → List ℕ
 lineOf mode chips = line mode (told (answerAt mode 127 chips))
 
 -- mode 0 and then mode 1
-abbrev pub sheetOf : List ℕ → List ℕ
-sheetOf chips = lineOf 0 chips ++ lineOf 1 chips
+abbrev pub linesOf : List ℕ → List ℕ
+linesOf chips = lineOf 0 chips ++ lineOf 1 chips
