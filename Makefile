@@ -46,7 +46,7 @@ test:
 	@rt ci
 
 # every test from outside; each prints a line of counts, and fails where something is wrong
-outside: build/fields build/compare build/stack build/example
+outside: build/fields build/compare build/stack build/example build/speed
 	@host/header-test
 	@host/install-test
 	@host/exec build/fields

@@ -20,6 +20,7 @@ enum { FRAMES = 32, OCTETS = LERNAZHUP_REPORT_MAX, LEAST_REPETITIONS = 51, MOST_
 
 typedef lernazhup_reading reader(uint32_t, const uint8_t *, size_t, uint8_t *, size_t);
 typedef lernazhup_written writer(uint32_t, const uint8_t *, size_t, uint8_t *, size_t);
+typedef lernazhup_step pusher(lernazhup_receiver, const uint8_t *, size_t);
 
 static const size_t symbol_chips[2] = {LERNAZHUP_SYMBOL_MODE0, LERNAZHUP_SYMBOL_MODE1};
 static const size_t frame_chips[2] = {LERNAZHUP_CHIPS_MAX_MODE0, LERNAZHUP_CHIPS_MAX_MODE1};
@@ -94,25 +95,27 @@ static void make_frames(void)
 }
 
 /* The receiver in a reader's clothes: start, push each symbol, take. */
-static lernazhup_reading stepping_read(uint32_t mode, const uint8_t *chips, size_t chips_len, uint8_t *report,
-                                       size_t report_len)
+static lernazhup_reading stepped(pusher *push, uint32_t mode, const uint8_t *chips, size_t chips_len, uint8_t *report,
+                                 size_t report_len)
 {
     lernazhup_step step = lernazhup_start(mode);
     size_t length = symbol_chips[mode], at;
     for (at = 0; at + length <= chips_len && step.number == LERNAZHUP_MORE; at += length)
-        step = lernazhup_push(step.receiver, chips + at, length);
+        step = push(step.receiver, chips + at, length);
     return lernazhup_take(step.receiver, report, report_len);
+}
+
+static lernazhup_reading stepping_read(uint32_t mode, const uint8_t *chips, size_t chips_len, uint8_t *report,
+                                       size_t report_len)
+{
+    return stepped(lernazhup_push, mode, chips, chips_len, report, report_len);
 }
 
 /* The same calls with a push that does nothing, for what the record by value takes alone. */
 static lernazhup_reading handing_read(uint32_t mode, const uint8_t *chips, size_t chips_len, uint8_t *report,
                                       size_t report_len)
 {
-    lernazhup_step step = lernazhup_start(mode);
-    size_t length = symbol_chips[mode], at;
-    for (at = 0; at + length <= chips_len && step.number == LERNAZHUP_MORE; at += length)
-        step = handing_push(step.receiver, chips + at, length);
-    return lernazhup_take(step.receiver, report, report_len);
+    return stepped(handing_push, mode, chips, chips_len, report, report_len);
 }
 
 static struct contestant contestants[] = {
