@@ -12,7 +12,7 @@ ghost use Rattle.codes.specs.Matching.{from, sumTo};
 ghost use Rattle.codes.specs.Packed.{packed, digitSum};
 
 // The distance of fifteen chips from the word of a bit, as a sum of exclusive ors. The first word stands here as two numbers and is
-// not read from the table: a table just made lies in memory in pieces of other sizes, and a load that spans them waits. The division
+// not read from the table: a table just made lies in memory in pieces of other sizes, and a load that spans them is slow. The division
 // takes chip 7 out of the second eight, since the first has it. The two words differ in all fifteen chips, so the distance from
 // the second is what is left of fifteen.
 pub fn apart(bit: u32, chips: &[u8], at: usize) -> u8
