@@ -46,10 +46,11 @@ test:
 	@rt ci
 
 # every test from outside; each prints a line of counts, and fails where something is wrong
-outside: build/fields build/compare build/stack build/example build/speed
+outside: build/fields build/compare build/stack build/example build/vectors build/speed
 	@host/header-test
 	@host/install-test
 	@host/exec build/fields
+	@host/vectors-test
 	@host/send-test
 	@host/bench-test
 	@host/example-test
@@ -63,11 +64,12 @@ speed: lib build/speed build/stack
 	@host/exec build/stack
 	@host/sizes
 
-# proves what has changed and links the programs; quiet unless it fails
+# proves what has changed and links the programs; quiet unless it fails. The library is proved along with them: crates that don't use
+# each other are proved side by side
 programs:
 	@mkdir -p build
 	@[ -f target/bin/bench ] || echo 'proving the programs and what they stand on: a minute or two the first time'
-	@rt check send bench >build/programs.log 2>&1 || { tail -n 20 build/programs.log >&2; exit 1; }
+	@rt check send bench gateway >build/programs.log 2>&1 || { tail -n 20 build/programs.log >&2; exit 1; }
 
 lib: $(ARCHIVE) build/lernazhup.h build/lernazhup.pc
 	@:
@@ -97,7 +99,7 @@ install: lib
 	install -m 644 $(ARCHIVE) '$(DESTDIR)$(PREFIX)/lib'
 	host/pkg-config-file '$(PREFIX)' '$${prefix}/lib' '$${prefix}/include' >'$(DESTDIR)$(PREFIX)/lib/pkgconfig/lernazhup.pc'
 
-build/example build/fields build/stack: build/%: host/%.c build/lernazhup.h $(ARCHIVE) $(TOOLS)
+build/example build/fields build/stack build/vectors: build/%: host/%.c build/lernazhup.h $(ARCHIVE) $(TOOLS)
 	@$(CC) $(CFLAGS) $< $(ARCHIVE) -o $@
 
 build/speed: $(addprefix host/,speed.c usual.c best.c copying.c handing.c baseline.h) build/lernazhup.h $(ARCHIVE) $(TOOLS)

@@ -9,6 +9,7 @@ pub mod Unique
 pub mod Rows
 pub mod Least
 pub mod Facts
+pub mod Printed
 pub mod Lent
 pub mod Rule
 pub mod Equal

@@ -153,8 +153,8 @@ total h zero = 0
 total h (suc k) = total h k + h k
 
 -- fifteen digits in one number: two overlapping eights, of which the second loses the digit that both have, added
-abbrev both : (ℕ → ℕ) → ℕ
-both h = packed h 8 + packed (λ i. h (7 + i)) 8 / 256
+abbrev fifteen : (ℕ → ℕ) → ℕ
+fifteen h = packed h 8 + packed (λ i. h (7 + i)) 8 / 256
 
 module _ (h : ℕ → ℕ) (b : (i : ℕ) → h i ≤ 1) where
   -- the second eight without its first digit
@@ -163,17 +163,17 @@ module _ (h : ℕ → ℕ) (b : (i : ℕ) → h i ≤ 1) where
   seven = omega (arith, b 7)
 
   -- digits of at most 1 carry nothing, the highest too
-  both-fits : both h < 2 ^ 64
+  fifteen-fits : fifteen h < 2 ^ 64
   unfolding packed
-  both-fits = rw seven (omega (arith, b 0, b 1, b 2, b 3, b 4, b 5, b 6, b 7, b 8, b 9, b 10, b 11, b 12, b 13, b 14))
+  fifteen-fits = rw seven (omega (arith, b 0, b 1, b 2, b 3, b 4, b 5, b 6, b 7, b 8, b 9, b 10, b 11, b 12, b 13, b 14))
 
   -- so the sum of the eight digits is that of the fifteen
-  both-sum : digitSum (both h) ≡ total h 15
+  fifteen-sum : digitSum (fifteen h) ≡ total h 15
   unfolding packed digitSum total
-  both-sum =
+  fifteen-sum =
       let lower = (h 3 + h 11) * 2 ^ 24 + (h 2 + h 10) * 2 ^ 16 + (h 1 + h 9) * 2 ^ 8 + (h 0 + h 8) in
       let upper = h 7 * 2 ^ 24 + (h 6 + h 14) * 2 ^ 16 + (h 5 + h 13) * 2 ^ 8 + (h 4 + h 12) in
-      let e : both h ≡ upper * 2 ^ 32 + lower = rw seven (omega arith) in
+      let e : fifteen h ≡ upper * 2 ^ 32 + lower = rw seven (omega arith) in
       let l : lower < 2 ^ 32 = omega (arith, b 0, b 1, b 2, b 3, b 8, b 9, b 10, b 11) in
       let f : lower + upper ≡ (h 3 + h 7 + h 11) * 2 ^ 24 + (h 2 + h 6 + h 10 + h 14) * 2 ^ 16 + (h 1 + h 5 + h 9 + h 13) * 2 ^ 8 + (h 0 + h 4 + h 8 + h 12) = omega arith in
       rw (e, halves lower upper l, f)
@@ -202,8 +202,8 @@ module _ (f g : ℕ → ℕ) (b : (i : ℕ) → f i ≤ 1) (d : (i : ℕ) → g 
   xor-total (suc k) h = rw (xor-total k (omega arith)) (omega (arith, total-le k, xors-le k))
 
   -- the eights that the code adds are those of the exclusive ors
-  xors-both : bitXor (packed f 8) (packed g 8) + bitXor (packed (λ i. f (7 + i)) 8) (packed (λ i. g (7 + i)) 8) / 256 ≡ both (xors f g)
-  xors-both =
+  xors-fifteen : bitXor (packed f 8) (packed g 8) + bitXor (packed (λ i. f (7 + i)) 8) (packed (λ i. g (7 + i)) 8) / 256 ≡ fifteen (xors f g)
+  xors-fifteen =
       rw (
         xor-packed f g (λ i. omega (arith, b i)) (λ i. omega (arith, d i)) 8,
         xor-packed (λ i. f (7 + i)) (λ i. g (7 + i)) (λ i. omega (arith, b (7 + i))) (λ i. omega (arith, d (7 + i))) 8,
@@ -243,16 +243,16 @@ module _ (words chips : List ℕ) (row at : ℕ)
   module _ (x y u v : ℕ) (ex : x ≡ packed (from chips at) 8) (ey : y ≡ packed (from words row) 8)
       (eu : u ≡ packed (from chips (at + 7)) 8) (ev : v ≡ packed (from words (row + 7)) 8) where
     -- what it adds is fifteen exclusive ors in one number
-    added : bitXor x y + bitXor u v / 256 ≡ both (xors (window chips at) (window words row))
+    added : bitXor x y + bitXor u v / 256 ≡ fifteen (xors (window chips at) (window words row))
     added =
         rw (ex ∙ first-eight chips at, ey ∙ first-eight words row, eu ∙ last-eight chips at, ev ∙ last-eight words row)
-        (xors-both (window chips at) (window words row) (chip-at _ q) (chip-at _ p))
+        (xors-fifteen (window chips at) (window words row) (chip-at _ q) (chip-at _ p))
 
     -- the sum of the eights does not wrap
     pub apart-fits : bitXor x y + bitXor u v / 256 < 2 ^ 64
-    apart-fits = rw added (both-fits (xors (window chips at) (window words row)) added-le)
+    apart-fits = rw added (fifteen-fits (xors (window chips at) (window words row)) added-le)
 
     -- and the sum of its digits is the contract's
     pub apart-sum : digitSum (bitXor x y + bitXor u v / 256) ≡ xorSum (from chips at) (from words row) 15
     apart-sum =
-        rw added (both-sum (xors (window chips at) (window words row)) added-le ∙ sym row-total)
+        rw added (fifteen-sum (xors (window chips at) (window words row)) added-le ∙ sym row-total)

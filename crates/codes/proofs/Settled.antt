@@ -1,12 +1,13 @@
--- A promise settles what it speaks of: two outcomes that satisfy it are equal. `Settles` speaks of a function's own contract: of
--- what its `ensures` says (`Post`) at any lifetimes, arguments and parameters at exit. One law answers it for each public
--- function whose promise is an equation. Assumes nothing.
+-- A promise settles what it speaks of: two outcomes that satisfy it are equal. And it asks nothing: whatever the arguments are, a
+-- caller has nothing to show. `Settles` and `AsksNothing` speak of a function's own contract: of what its `ensures` says (`Post`) at
+-- any lifetimes, arguments and parameters at exit, and of what its `requires` say (`Pre`). One law answers the first for each
+-- public function whose promise is an equation; the second holds by itself where there is no `requires`. Assumes nothing.
 use mathlib.Core.Path.{_≡_, sym, _∙_}
 use mathlib.Core.List.{List}
 use Prim.Native.Nat.{ℕ}
 use contract.Lifetimes.{Lfts}
 use denote.Triple.Clauses.{AtExit}
-use borrow.Fn.Kinds.{PK, RK, Out, Dens, resT, endedOf}
+use borrow.Fn.Kinds.{PK, RK, In, Out, Dens, resT, endedOf}
 use Rattle.codes.proofs.size_of.Kinds as size-of-kinds
 use Rattle.codes.proofs.size_of.Reads as size-of-promise
 use Rattle.codes.proofs.limit_of.Kinds as limit-of-kinds
@@ -25,6 +26,10 @@ settled p q e f = e ∙ sym f
 abbrev pub Settles : (n : ℕ) (ps : List (PK n)) (r : RK n) → Out n ps r → Type 0
 Settles n ps r Post = (κs : Lfts n) (a : Dens κs ps) (p q : resT r κs .Denot) (s t : AtExit (endedOf n ps r) κs) → Post κs a p s → Post κs a q t → p ≡ q
 
+-- the contract asks nothing of the arguments
+abbrev pub AsksNothing : (n : ℕ) (ps : List (PK n)) → In n ps → Type 0
+AsksNothing n ps Pre = (κs : Lfts n) (a : Dens κs ps) → Pre κs a
+
 pub size-of-settled : Settles 0 size-of-kinds.ps size-of-kinds.r size-of-promise.Post
 size-of-settled κs a p q s t = settled p q
 
@@ -39,3 +44,18 @@ read-symbol-settled κs a p q s t = settled p q
 
 pub matched-settled : Settles 2 matched-kinds.ps matched-kinds.r matched-promise.Post
 matched-settled κs a p q s t = settled p q
+
+pub size-of-asks-nothing : AsksNothing 0 size-of-kinds.ps size-of-promise.Pre
+size-of-asks-nothing κs a = tt
+
+pub limit-of-asks-nothing : AsksNothing 0 limit-of-kinds.ps limit-of-promise.Pre
+limit-of-asks-nothing κs a = tt
+
+pub table-asks-nothing : AsksNothing 0 table-kinds.ps table-promise.Pre
+table-asks-nothing κs a = tt
+
+pub read-symbol-asks-nothing : AsksNothing 1 read-symbol-kinds.ps read-symbol-promise.Pre
+read-symbol-asks-nothing κs a = tt
+
+pub matched-asks-nothing : AsksNothing 2 matched-kinds.ps matched-promise.Pre
+matched-asks-nothing κs a = tt

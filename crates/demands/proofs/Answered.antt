@@ -75,5 +75,5 @@ module _ (r : Radio) (S : Sound r) (room : ℕ) (ws : List (List ℕ)) (report :
     answered-at = run-reading r room ws k 0 k (zero-add k) run ∙ ends
 
   -- the reading answers the report
-  pub answered : readingFrom r room [] ws ≡ done (length (symbols r report)) report count
-  answered = answered-at (length vs - 1) (omega (arith, some))
+  pub windows-answer : readingFrom r room [] ws ≡ done (length (symbols r report)) report count
+  windows-answer = answered-at (length vs - 1) (omega (arith, some))

@@ -14,7 +14,7 @@ use Rattle.reader.specs.Order.{done, whole, reading}
 use Rattle.demands.specs.Words.{Report, Answers, Near, differences}
 use Rattle.demands.proofs.Frames.{sum-of-windows}
 use Rattle.demands.proofs.Ended.{reading-heard}
-use Rattle.demands.proofs.Answered.{answered}
+use Rattle.demands.proofs.Answered.{windows-answer}
 use Rattle.demands.proofs.Close.{stands-near, near-stands}
 
 module _ (r : Radio) (S : Sound r) (room : ℕ) (chips report : List ℕ) (count : ℕ) where
@@ -31,7 +31,7 @@ module _ (r : Radio) (S : Sound r) (room : ℕ) (chips report : List ℕ) (count
   demand-3 h = (
     λ a. let H = reading-heard r S room (whole r chips) (length (symbols r report)) count report a in
         (H .proper, stands-near r S chips report count (H .row)),
-    λ n. answered r S room (whole r chips) report (n .0) h count (near-stands r S chips report count (n .1)),
+    λ n. windows-answer r S room (whole r chips) report (n .0) h count (near-stands r S chips report count (n .1)),
   )
 
   -- the count of an answer is the sum over the symbols' windows

@@ -1,5 +1,5 @@
 -- The demands, and the laws that they stand on, leaves first. To be read are Demand1, Demand2, Demand3 and, from it, PutRight, NoFlat,
--- OneAnswer and Reader; of the stepping receiver Stepped, Stray, NeverForged and Given. Each opens with what it says in plain words.
+-- OneAnswer and Reader; of the stepping receiver Stepped, Stray, Forged, Short and Given. Each opens with what it says in plain words.
 pub mod Digits
 pub mod Back
 pub mod Octet
@@ -23,5 +23,7 @@ pub mod Demand2
 pub mod Demand1
 pub mod Given
 pub mod Stray
-pub mod NeverForged
+pub mod Made
+pub mod Forged
+pub mod Short
 pub mod Stepped

@@ -1,14 +1,12 @@
--- No symbol of an accepted frame is flat, all 0 or all 1: for any sound radio whose words are all farther than the limit from both flat
--- words, and so in either mode. Assumes nothing.
+-- No symbol of an accepted frame is flat, all 0 or all 1: for any sound radio whose words are all farther than the limit from both
+-- flat words. Assumes nothing.
 use mathlib.Core.Path.{_≡_}
-use mathlib.Core.Bool.{true}
 use mathlib.Core.List.{List}
 use Prim.Native.Nat.{ℕ, _≤_, _<_}
 use native.Mathlib.Omega.{arith}
 use lib.ListN.{length, getD, replicate}
 use Rattle.codes.specs.Chips.{distance}
-use Rattle.codes.specs.Radio.{Radio, Sound, Unflat, known, radioOf, word}
-use Rattle.codes.proofs.Facts.{unflat, sound}
+use Rattle.codes.specs.Radio.{Radio, Sound, Unflat, word}
 use Rattle.frame.specs.Frame.{symbols}
 use Rattle.reader.specs.Order.{window}
 use Rattle.demands.specs.Words.{Answers}
@@ -22,8 +20,3 @@ no-flat r S U room chips report count a s h c l e =
     let near = demand-3 r S room chips report count (answer-room r S room chips report count a) .0 a .1 .near s h in
     let close : distance (replicate (r .size) c) (word r (getD (symbols r report) s 0)) ≤ r .limit = rw (e, frame-window r S report s h) at near in
     omega (arith, U c (getD (symbols r report) s 0) l (symbol-known r S report s h))
-
--- the same in either mode
-pub no-flat-mode : (mode : ℕ) → known mode ≡ true → (room : ℕ) (chips report : List ℕ) (count : ℕ) → Answers (radioOf mode) room chips report count
-    → (s : ℕ) → s < length (symbols (radioOf mode) report) → (c : ℕ) → c ≤ 1 → window (radioOf mode) chips s ≡ replicate (radioOf mode .size) c → ⊥
-no-flat-mode mode k = no-flat (radioOf mode) (sound mode) (unflat mode)

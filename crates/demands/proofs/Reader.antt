@@ -1,23 +1,26 @@
--- Demand 3 of the reader's whole outcome, answer and report buffer, in a mode that has a radio: what is shown of the reading is so of the
--- reader; a reader that gives number 0 has read a report; and a report is read alike into any buffer with room. Assumes nothing.
+-- Demand 3 of the reader's whole outcome, answer and report buffer, in a mode that has a radio: what is shown of the reading is so of
+-- the reader; putting a wrong chip right lowers its count by one; no frame that it accepts holds a flat symbol; a reader that gives
+-- number 0 has read a report; and a report is read alike into any buffer with room. Assumes nothing.
 use mathlib.Core.Path.{_≡_, refl, sym, ap, _∙_}
 use mathlib.Core.Logic.{_↔_}
 use mathlib.Core.Bool.{true}
 use mathlib.Core.List.{List, _++_}
-use Prim.Native.Nat.{ℕ, _≤_}
-use lib.ListN.{length, take, drop}
+use Prim.Native.Nat.{ℕ, suc, _≤_, _<_}
+use lib.ListN.{length, getD, set, take, drop, replicate}
 use lib.Seq.{take-at}
 use Rattle.codes.specs.Numbers.{DONE}
 use Rattle.codes.specs.Radio.{known, radioOf}
-use Rattle.codes.proofs.Facts.{sound}
+use Rattle.codes.proofs.Facts.{sound, unflat}
 use Rattle.frame.specs.Outcome.{Outcome}
-use Rattle.frame.specs.Frame.{symbols}
+use Rattle.frame.specs.Frame.{symbols, frame}
 use Rattle.reader.specs.declared.Reading.{Reading}
-use Rattle.reader.specs.Order.{Answer, refused, done, reading}
+use Rattle.reader.specs.Order.{Answer, refused, done, window, reading}
 use Rattle.reader.specs.Read.{told, left, answerAt, answered, readOf}
 use Rattle.demands.specs.Words.{Report, Answers, Near, success}
 use Rattle.demands.proofs.Fair.{Fair, answer-fair, done-unfair}
 use Rattle.demands.proofs.Demand3.{answer-place, answer-room, demand-3}
+use Rattle.demands.proofs.PutRight.{put-right}
+use Rattle.demands.proofs.NoFlat.{no-flat}
 
 module _ (mode : ℕ) (k : known mode ≡ true) (chips buffer report : List ℕ) (count : ℕ) where
   -- an answer told so is this report's
@@ -46,6 +49,22 @@ module _ (mode : ℕ) (k : known mode ≡ true) (chips buffer report : List ℕ)
   reads-report h =
       let d = demand-3 (radioOf mode) (sound mode) (length buffer) chips report count h in
       (λ o. d .0 (success-answers .0 o), λ n. success-answers .1 (d .1 n))
+
+-- A report that the reader answers.
+module _ (mode : ℕ) (k : known mode ≡ true) (chips buffer report : List ℕ) (count : ℕ) (o : readOf mode chips buffer ≡ success mode buffer report count) where
+  answers : Answers (radioOf mode) (length buffer) chips report count
+  answers = success-answers mode k chips buffer report count .0 o
+
+  -- One wrong chip of its frame put right: the same report, and a count one less.
+  pub reads-put-right : (i : ℕ) → i < length (frame (radioOf mode) report) → (getD chips i 0 ≡ getD (frame (radioOf mode) report) i 0 → ⊥)
+      → (c : ℕ) × (count ≡ suc c) × (readOf mode (set chips i (getD (frame (radioOf mode) report) i 0)) buffer ≡ success mode buffer report c)
+  reads-put-right i h w =
+      let n = put-right (radioOf mode) (sound mode) (length buffer) chips report count answers i h w in
+      (n .0, n .1, success-answers mode k (set chips i (getD (frame (radioOf mode) report) i 0)) buffer report (n .0) .1 (n .2))
+
+  -- No symbol of its frame is all 0 or all 1.
+  pub reads-no-flat : (s : ℕ) → s < length (symbols (radioOf mode) report) → (c : ℕ) → c ≤ 1 → window (radioOf mode) chips s ≡ replicate (radioOf mode .size) c → ⊥
+  reads-no-flat = no-flat (radioOf mode) (sound mode) (unflat mode) (length buffer) chips report count answers
 
 -- A reader that gives number 0 has read a report, which had room.
 module _ (mode : ℕ) (k : known mode ≡ true) (chips buffer : List ℕ) where

@@ -21,7 +21,7 @@ use Rattle.reader.proofs.Raw.{size-pos}
 use Rattle.reader.proofs.Windows.{whole-sized}
 use Rattle.receiver.specs.declared.Receiver.{Receiver}
 use Rattle.receiver.specs.declared.Step.{Step}
-use Rattle.receiver.specs.Record.{startOf, forged, tookSymbol, pushOf, finishOf, roomFor, takeOf, receivedOf}
+use Rattle.receiver.specs.Record.{startOf, forged, tookSymbol, pushOf, finishOf, roomFor, takeOf}
 use Rattle.demands.specs.Calls.{Call, pushing, called, after, stray, counted, inOrder}
 use Rattle.receiver.proofs.Stepping.{Going, Gone, start-going, start-gone, honest, going-open, finish-gone, push-going}
 use Rattle.demands.proofs.Fair.{by-pick}
@@ -146,18 +146,15 @@ module _ (mode : ℕ) (chips : List ℕ) where
   pub in-order-counts : counted begun (inOrder begun (whole (radioOf mode) chips)) ≡ inOrder begun (whole (radioOf mode) chips)
   in-order-counts = steps-answer .1
 
-  -- The symbols in order, taken into any buffer, come to what `receive` promises.
-  pub in-order-received : (buffer : List ℕ) → takeOf (after begun (inOrder begun (whole (radioOf mode) chips))) buffer ≡ receivedOf mode chips buffer
-  in-order-received buffer = ap (λ (a : Answer). answered a buffer) (steps-answer .0 .same (length buffer))
+  -- The symbols in order, taken into any buffer: what the reader answers with room for 127 octets, where this one has room for it.
+  pub in-order-takes : (buffer : List ℕ)
+      → takeOf (after begun (inOrder begun (whole (radioOf mode) chips))) buffer ≡ answered (roomFor (length buffer) (answerAt mode 127 chips)) buffer
+  in-order-takes buffer = ap (λ (a : Answer). answered a buffer) (steps-answer .0 .same (length buffer))
 
   module _ (buffer : List ℕ) (l : length buffer ≡ 127) where
-    -- `receive`'s promise, with a report buffer of 127 bytes, is the reader's.
-    pub received-reads : receivedOf mode chips buffer ≡ readOf mode chips buffer
-    received-reads = rw l (ap (λ (a : Answer). answered a buffer) room-enough)
-
     -- The symbols in order: take answers what the reader answers.
     pub in-order-reads : takeOf (after begun (inOrder begun (whole (radioOf mode) chips))) buffer ≡ readOf mode chips buffer
-    in-order-reads = in-order-received buffer ∙ received-reads
+    in-order-reads = in-order-takes buffer ∙ rw l (ap (λ (a : Answer). answered a buffer) room-enough)
 
     -- And whatever calls that answered 10, 11 or 12 came between.
     pub steps-read : (xs : List Call) → counted begun xs ≡ inOrder begun (whole (radioOf mode) chips) → takeOf (after begun xs) buffer ≡ readOf mode chips buffer

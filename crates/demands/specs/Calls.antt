@@ -1,12 +1,19 @@
--- Lists of calls of the stepping receiver: the words that its theorems are stated with.
-use Prim.Native.Nat.{ℕ}
-use mathlib.Core.Bool.{Bool}
+-- Lists of calls of the stepping receiver, records that no calls make, and records whose report has no room: the words that its
+-- theorems are stated with.
+use mathlib.Core.Path.{_≡_}
+use Prim.Native.Nat.{ℕ, _*_, _≤_, _<_}
+use mathlib.Core.Bool.{Bool, false}
 use mathlib.Core.List.{List, [], _∷_}
-use Rattle.codes.specs.Numbers.{ENDED, BADPART, NOTENDED}
+use lib.ListN.{length}
+use Rattle.codes.specs.Numbers.{NOROOM, ENDED, BADPART, NOTENDED}
 use Rattle.codes.specs.Chips.{pick, among}
+use Rattle.codes.specs.Radio.{known, radioOf}
+use Rattle.frame.specs.Outcome.{outcome}
+use Rattle.frame.specs.Frame.{symbols}
 use Rattle.receiver.specs.declared.Receiver.{Receiver}
 use Rattle.receiver.specs.declared.Step.{Step}
 use Rattle.receiver.specs.Record.{step, isOpen, pushOf, finishOf, takeOf}
+use Rattle.demands.specs.Words.{success}
 
 -- a part pushed, a finish, a take into a buffer
 pub data Call : Type 0 where
@@ -48,3 +55,18 @@ counted c (x ∷ xs) = pick (stray (called c x .number)) (counted (called c x .r
 unfoldable pub inOrder : Receiver → List (List ℕ) → List Call
 inOrder c [] = pick (isOpen c) (finishing ∷ []) []
 inOrder c (w ∷ ws) = pick (isOpen c) (pushing w ∷ inOrder (pushOf c w .receiver) ws) []
+
+-- An open record that no calls make: its mode has no radio, its length is above 127, its count is above the accepted distance times
+-- the symbols taken, or the symbols taken are not fewer than those of the frame of a report of that length.
+pub data Unmade (c : Receiver) : Type 0 where
+  no-radio : known (c .mode) ≡ false → Unmade c
+  too-long : 127 < c .length → Unmade c
+  too-many-repaired : radioOf (c .mode) .limit * c .taken < c .count → Unmade c
+  frame-taken : ((report : List ℕ) → length report ≡ c .length → length (symbols (radioOf (c .mode)) report) ≤ c .taken) → Unmade c
+
+-- The record holds a report for which the buffer is too short: take gives it into any buffer with room, and into this one a 3 at the
+-- number of symbols of the report's frame, with nothing stored.
+pub record Short (mode : ℕ) (c : Receiver) (buffer report : List ℕ) (count : ℕ) : Type 0 where
+  pub short : length buffer < length report
+  pub given : (other : List ℕ) → length report ≤ length other → takeOf c other ≡ success mode other report count
+  pub refused : takeOf c buffer ≡ outcome (record { number = NOROOM; place = length (symbols (radioOf mode) report); n = 0; count = 0 }) buffer

@@ -7,7 +7,7 @@ use contract.Lifetimes.{Lfts}
 use denote.Ref.{now}
 use denote.Triple.Clauses.{AtExit}
 use borrow.Fn.Kinds.{Dens, resT, endedOf}
-use Rattle.codes.proofs.Settled.{settled, Settles}
+use Rattle.codes.proofs.Settled.{settled, Settles, AsksNothing}
 use Rattle.frame.specs.Outcome.{Outcome, outcome}
 use Rattle.frame.proofs.per_octet.Kinds as per-octet-kinds
 use Rattle.frame.proofs.per_octet.Reads as per-octet-promise
@@ -18,10 +18,16 @@ pub per-octet-settled : Settles 0 per-octet-kinds.ps per-octet-kinds.r per-octet
 per-octet-settled κs a p q s t = settled p q
 
 -- an outcome is an answer and a buffer
-pub both : {A : Type 0} (p q : A) (b c : List ℕ) → outcome p b ≡ outcome q c → (p ≡ q) × (b ≡ c)
-both {A} p q b c e = (ap (λ (o : Outcome A). o .answer) e, ap (λ (o : Outcome A). o .buffer) e)
+pub same-outcome : {A : Type 0} (p q : A) (b c : List ℕ) → outcome p b ≡ outcome q c → (p ≡ q) × (b ≡ c)
+same-outcome {A} p q b c e = (ap (λ (o : Outcome A). o .answer) e, ap (λ (o : Outcome A). o .buffer) e)
 
 -- `s .1 .1 .0` is the third parameter, the buffer, at exit
 pub write-settled : (κs : Lfts 2) (a : Dens κs write-kinds.ps) (p q : resT write-kinds.r κs .Denot) (s t : AtExit (endedOf 2 write-kinds.ps write-kinds.r) κs)
     → write-promise.Post κs a p s → write-promise.Post κs a q t → (p ≡ q) × (now (s .1 .1 .0) ≡ now (t .1 .1 .0))
-write-settled κs a p q s t e f = both p q _ _ (settled _ _ e f)
+write-settled κs a p q s t e f = same-outcome p q _ _ (settled _ _ e f)
+
+pub per-octet-asks-nothing : AsksNothing 0 per-octet-kinds.ps per-octet-promise.Pre
+per-octet-asks-nothing κs a = tt
+
+pub write-asks-nothing : AsksNothing 2 write-kinds.ps write-promise.Pre
+write-asks-nothing κs a = tt

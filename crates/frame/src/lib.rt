@@ -13,6 +13,9 @@ ghost use Rattle.frame.specs.Frame.{octets, perAt, rawOf, sent, encode, 
 ghost use Rattle.frame.specs.Write.{refused, written};
 ghost use Rattle.frame.specs.Putting.{over, lastSent, octetChips};
 
+// The start octet.
+pub const START: u8 = 0xA7;
+
 // What the writer gives back: 0 and the chip count, or a refusal and 0.
 #[repr(C)]
 pub struct Written {
@@ -89,7 +92,7 @@ fn octet_at(report: &[u8], j: usize) -> u8
         return 0;
     }
     if j == 4 {
-        return 0xA7;
+        return START;
     }
     if j == 5 {
         return report.len() as u8;

@@ -6,8 +6,8 @@ use contract.Lifetimes.{Lfts}
 use denote.Ref.{now}
 use denote.Triple.Clauses.{AtExit}
 use borrow.Fn.Kinds.{Dens, resT, endedOf}
-use Rattle.codes.proofs.Settled.{settled, Settles}
-use Rattle.frame.proofs.Settled.{both}
+use Rattle.codes.proofs.Settled.{settled, Settles, AsksNothing}
+use Rattle.frame.proofs.Settled.{same-outcome}
 use Rattle.gateway.proofs.lernazhup_write.Kinds as write-kinds
 use Rattle.gateway.proofs.lernazhup_write.Reads as write-promise
 use Rattle.gateway.proofs.lernazhup_read.Kinds as read-kinds
@@ -24,12 +24,12 @@ use Rattle.gateway.proofs.lernazhup_take.Reads as take-promise
 -- `s .1 .1 .0` is the third parameter at exit
 pub write-settled : (κs : Lfts 2) (a : Dens κs write-kinds.ps) (p q : resT write-kinds.r κs .Denot) (s t : AtExit (endedOf 2 write-kinds.ps write-kinds.r) κs)
     → write-promise.Post κs a p s → write-promise.Post κs a q t → (p ≡ q) × (now (s .1 .1 .0) ≡ now (t .1 .1 .0))
-write-settled κs a p q s t e f = both p q _ _ (settled _ _ e f)
+write-settled κs a p q s t e f = same-outcome p q _ _ (settled _ _ e f)
 
 -- `s .1 .1 .0` is the third parameter at exit
 pub read-settled : (κs : Lfts 2) (a : Dens κs read-kinds.ps) (p q : resT read-kinds.r κs .Denot) (s t : AtExit (endedOf 2 read-kinds.ps read-kinds.r) κs)
     → read-promise.Post κs a p s → read-promise.Post κs a q t → (p ≡ q) × (now (s .1 .1 .0) ≡ now (t .1 .1 .0))
-read-settled κs a p q s t e f = both p q _ _ (settled _ _ e f)
+read-settled κs a p q s t e f = same-outcome p q _ _ (settled _ _ e f)
 
 pub start-settled : Settles 0 start-kinds.ps start-kinds.r start-promise.Post
 start-settled κs a p q s t = settled p q
@@ -43,4 +43,22 @@ finish-settled κs a p q s t = settled p q
 -- `s .1 .0` is the second parameter at exit
 pub take-settled : (κs : Lfts 1) (a : Dens κs take-kinds.ps) (p q : resT take-kinds.r κs .Denot) (s t : AtExit (endedOf 1 take-kinds.ps take-kinds.r) κs)
     → take-promise.Post κs a p s → take-promise.Post κs a q t → (p ≡ q) × (now (s .1 .0) ≡ now (t .1 .0))
-take-settled κs a p q s t e f = both p q _ _ (settled _ _ e f)
+take-settled κs a p q s t e f = same-outcome p q _ _ (settled _ _ e f)
+
+pub write-asks-nothing : AsksNothing 2 write-kinds.ps write-promise.Pre
+write-asks-nothing κs a = tt
+
+pub read-asks-nothing : AsksNothing 2 read-kinds.ps read-promise.Pre
+read-asks-nothing κs a = tt
+
+pub start-asks-nothing : AsksNothing 0 start-kinds.ps start-promise.Pre
+start-asks-nothing κs a = tt
+
+pub push-asks-nothing : AsksNothing 1 push-kinds.ps push-promise.Pre
+push-asks-nothing κs a = tt
+
+pub finish-asks-nothing : AsksNothing 0 finish-kinds.ps finish-promise.Pre
+finish-asks-nothing κs a = tt
+
+pub take-asks-nothing : AsksNothing 1 take-kinds.ps take-promise.Pre
+take-asks-nothing κs a = tt

@@ -8,6 +8,6 @@ pub mod Turns
 pub mod Gathered
 pub mod Sofar
 pub mod Scanning
-pub mod Scans
+pub mod Modes
 pub mod Told
 pub mod Settled

@@ -5,8 +5,8 @@ use contract.Lifetimes.{Lfts}
 use denote.Ref.{now}
 use denote.Triple.Clauses.{AtExit}
 use borrow.Fn.Kinds.{Dens, resT, endedOf}
-use Rattle.codes.proofs.Settled.{settled, Settles}
-use Rattle.frame.proofs.Settled.{both}
+use Rattle.codes.proofs.Settled.{settled, Settles, AsksNothing}
+use Rattle.frame.proofs.Settled.{same-outcome}
 use Rattle.reader.proofs.read.Kinds as read-kinds
 use Rattle.reader.proofs.read.Reads as read-promise
 use Rattle.reader.proofs.follow.Kinds as follow-kinds
@@ -21,7 +21,7 @@ use Rattle.reader.proofs.refusal.Reads as refusal-promise
 -- `s .1 .1 .0` is the third parameter, the report buffer, at exit
 pub read-settled : (κs : Lfts 2) (a : Dens κs read-kinds.ps) (p q : resT read-kinds.r κs .Denot) (s t : AtExit (endedOf 2 read-kinds.ps read-kinds.r) κs)
     → read-promise.Post κs a p s → read-promise.Post κs a q t → (p ≡ q) × (now (s .1 .1 .0) ≡ now (t .1 .1 .0))
-read-settled κs a p q s t e f = both p q _ _ (settled _ _ e f)
+read-settled κs a p q s t e f = same-outcome p q _ _ (settled _ _ e f)
 
 pub follow-settled : Settles 0 follow-kinds.ps follow-kinds.r follow-promise.Post
 follow-settled κs a p q s t = settled p q
@@ -38,3 +38,18 @@ store-settled κs a p q s t = settled _ _
 
 pub refusal-settled : Settles 0 refusal-kinds.ps refusal-kinds.r refusal-promise.Post
 refusal-settled κs a p q s t = settled p q
+
+pub read-asks-nothing : AsksNothing 2 read-kinds.ps read-promise.Pre
+read-asks-nothing κs a = tt
+
+pub follow-asks-nothing : AsksNothing 0 follow-kinds.ps follow-promise.Pre
+follow-asks-nothing κs a = tt
+
+pub keep-asks-nothing : AsksNothing 1 keep-kinds.ps keep-promise.Pre
+keep-asks-nothing κs a = tt
+
+pub store-asks-nothing : AsksNothing 1 store-kinds.ps store-promise.Pre
+store-asks-nothing κs a = tt
+
+pub refusal-asks-nothing : AsksNothing 0 refusal-kinds.ps refusal-promise.Pre
+refusal-asks-nothing κs a = tt

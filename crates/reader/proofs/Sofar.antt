@@ -26,7 +26,7 @@ use Rattle.reader.specs.Taking.{begun, stopped, advanced, onward, roomed
 use Rattle.reader.proofs.Windows.{seen, seen-front, seen-next, rest, rest-more, rest-out}
 use Rattle.reader.proofs.Steps.{goes}
 use Rattle.reader.proofs.Carried.{Carries, carries-none}
-use Rattle.reader.proofs.Turns.{Open, open-begun, On, Over, Off, Turned, turned}
+use Rattle.reader.proofs.Turns.{Open, open-begun, On, Over, Off, Turned, next-hand}
 use Rattle.reader.proofs.Gathered.{Gathered, kept-long, gathered-none, gathered-more, gathered-report}
 
 -- after s symbols
@@ -106,7 +106,7 @@ module _ (r : Radio) (S : Sound r) (room : ℕ) (ws : List (List ℕ)) (octets :
         (e : g ≡ roomed room h (pick (eqb (y .number) DONE) (advanced r h (y .value) (y .distance)) (stopped (y .number) h)))
         (kept : List ℕ) (k : kept ≡ onward (g .number) (keptIn (perOctet r) g octets) octets) where
       way : Turned r room before x g
-      way = turned r S low room before h (L .carries) (L .goes) (getD ws (h .taken) []) x refl g (rw i at e)
+      way = next-hand r S low room before h (L .carries) (L .goes) (getD ws (h .taken) []) x refl g (rw i at e)
 
       long-kept : length kept ≡ 127
       long-kept =

@@ -206,9 +206,9 @@ module _ (r : Radio) (S : Sound r) (low : r .limit ≤ 255) (room : ℕ) (before
       inr (inr (rw (e, le-ltb room (h .length) (O .fits)) (record { more = a; over = b; taken = C .taken; same = λ next. rw (ne-eqb (x .number) DONE b) })))
 
   -- one turn, with the symbol of a window
-  pub turned : (w : List ℕ) (x : Symbol) → x ≡ symbolOf r w → (g : Hand)
+  pub next-hand : (w : List ℕ) (x : Symbol) → x ≡ symbolOf r w → (g : Hand)
       → g ≡ roomed room h (pick (eqb (x .number) DONE) (advanced r h (x .value) (x .distance)) (stopped (x .number) h)) → Turned r room before x g
-  turned w x i g e =
+  next-hand w x i g e =
       by-test (eqb (x .number) DONE)
       (λ a.
       let q : x ≡ reads (x .value) (x .distance) = ap (λ (n : ℕ). record { number = n; value = x .value; distance = x .distance }) (eqb-true (x .number) DONE a) in

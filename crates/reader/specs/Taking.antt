@@ -50,14 +50,14 @@ abbrev pub onward : {A : Type 0} → ℕ → A → A → A
 onward x a b = pick (eqb x MORE) a (pick (eqb x DONE) a b)
 
 -- moved or stopped, by the rules with room for every report
-abbrev pub ruled : ℕ → Hand → ℕ → ℕ → ℕ → ℕ → ℕ → Hand
-ruled per h raw octet n d v =
+abbrev pub byRules : ℕ → Hand → ℕ → ℕ → ℕ → ℕ → ℕ → Hand
+byRules per h raw octet n d v =
     onward (rules per 127 (h .taken) raw octet n) (moved h (rules per 127 (h .taken) raw octet n) n d v octet) (stopped (rules per 127 (h .taken) raw octet n) h)
 
 -- the same, over the raw symbol alone
 abbrev pub shiftedBy : Radio → Hand → ℕ → ℕ → ℕ → Hand
 shiftedBy r h raw d v =
-    ruled (perOctet r) h raw (shifted r (h .octet) raw) (lengthAfter (perOctet r) (h .taken) (h .length) (shifted r (h .octet) raw)) d v
+    byRules (perOctet r) h raw (shifted r (h .octet) raw) (lengthAfter (perOctet r) (h .taken) (h .length) (shifted r (h .octet) raw)) d v
 
 -- a symbol's value and distance taken
 unfoldable pub advanced : Radio → Hand → ℕ → ℕ → Hand

@@ -191,7 +191,7 @@ fn rule(per: usize, taken: u32, raw: u32, octet: u32, n: u32) -> u32
     if s < 4 * per && raw != 0 {
         return codes::PREAMBLE;
     }
-    if s + 1 == 5 * per && octet != 0xA7 {
+    if s + 1 == 5 * per && octet != frame::START as u32 {
         return codes::BADSTART;
     }
     if s + 1 == 6 * per && 127 < n {

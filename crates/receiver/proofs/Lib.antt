@@ -2,5 +2,4 @@
 pub mod Ways
 pub mod Honest
 pub mod Stepping
-pub mod Receiving
 pub mod Settled

@@ -1,13 +1,13 @@
--- The promises settle what they speak of: two outcomes that satisfy one are equal, the whole record that comes back among them, and for
--- `take` and `receive` every byte of the lent buffer at exit. Each speaks of the function's own contract, as `Settles` does. Assumes
--- nothing.
+-- The promises settle what they speak of: two outcomes that satisfy one are equal, the whole record that comes back among them,
+-- and for `take` every byte of the lent buffer at exit. And they ask nothing. Each speaks of the function's own contract, as
+-- `Settles` and `AsksNothing` do. Assumes nothing.
 use mathlib.Core.Path.{_≡_}
 use contract.Lifetimes.{Lfts}
 use denote.Ref.{now}
 use denote.Triple.Clauses.{AtExit}
 use borrow.Fn.Kinds.{Dens, resT, endedOf}
-use Rattle.codes.proofs.Settled.{settled, Settles}
-use Rattle.frame.proofs.Settled.{both}
+use Rattle.codes.proofs.Settled.{settled, Settles, AsksNothing}
+use Rattle.frame.proofs.Settled.{same-outcome}
 use Rattle.receiver.proofs.Receiver.start.Kinds as start-kinds
 use Rattle.receiver.proofs.Receiver.start.Reads as start-promise
 use Rattle.receiver.proofs.Receiver.push.Kinds as push-kinds
@@ -16,8 +16,6 @@ use Rattle.receiver.proofs.Receiver.finish.Kinds as finish-kinds
 use Rattle.receiver.proofs.Receiver.finish.Reads as finish-promise
 use Rattle.receiver.proofs.Receiver.take.Kinds as take-kinds
 use Rattle.receiver.proofs.Receiver.take.Reads as take-promise
-use Rattle.receiver.proofs.receive.Kinds as receive-kinds
-use Rattle.receiver.proofs.receive.Reads as receive-promise
 
 pub start-settled : Settles 0 start-kinds.ps start-kinds.r start-promise.Post
 start-settled κs a p q s t = settled p q
@@ -31,9 +29,16 @@ finish-settled κs a p q s t = settled p q
 -- `s .1 .0` is the second parameter, the report buffer, at exit
 pub take-settled : (κs : Lfts 1) (a : Dens κs take-kinds.ps) (p q : resT take-kinds.r κs .Denot) (s t : AtExit (endedOf 1 take-kinds.ps take-kinds.r) κs)
     → take-promise.Post κs a p s → take-promise.Post κs a q t → (p ≡ q) × (now (s .1 .0) ≡ now (t .1 .0))
-take-settled κs a p q s t e f = both p q _ _ (settled _ _ e f)
+take-settled κs a p q s t e f = same-outcome p q _ _ (settled _ _ e f)
 
--- the third
-pub receive-settled : (κs : Lfts 2) (a : Dens κs receive-kinds.ps) (p q : resT receive-kinds.r κs .Denot) (s t : AtExit (endedOf 2 receive-kinds.ps receive-kinds.r) κs)
-    → receive-promise.Post κs a p s → receive-promise.Post κs a q t → (p ≡ q) × (now (s .1 .1 .0) ≡ now (t .1 .1 .0))
-receive-settled κs a p q s t e f = both p q _ _ (settled _ _ e f)
+pub start-asks-nothing : AsksNothing 0 start-kinds.ps start-promise.Pre
+start-asks-nothing κs a = tt
+
+pub push-asks-nothing : AsksNothing 1 push-kinds.ps push-promise.Pre
+push-asks-nothing κs a = tt
+
+pub finish-asks-nothing : AsksNothing 0 finish-kinds.ps finish-promise.Pre
+finish-asks-nothing κs a = tt
+
+pub take-asks-nothing : AsksNothing 1 take-kinds.ps take-promise.Pre
+take-asks-nothing κs a = tt

@@ -16,7 +16,7 @@ use Rattle.codes.proofs.Facts.{sound}
 use Rattle.reader.specs.Order.{Answer, refused, readingFrom}
 use Rattle.reader.specs.Taking.{followed, keptAt, Tells}
 use Rattle.reader.proofs.Sofar.{Sofar, starts, out, handed-open, handed-refused, handed-done}
-use Rattle.reader.proofs.Scans.{symbol-followed}
+use Rattle.reader.proofs.Modes.{symbol-followed}
 use Rattle.receiver.specs.declared.Receiver.{Receiver}
 use Rattle.receiver.specs.Record.{startOf, forged, handOf, held, pushOf, endedWith, finishOf, roomFor, takes}
 use Rattle.receiver.proofs.Ways.{forged-refused, takes-refused}

@@ -17,7 +17,7 @@ use Rattle.frame.specs.Frame.{perOctet}
 use Rattle.reader.specs.declared.Hand.{Hand}
 use Rattle.reader.specs.declared.Reading.{Reading}
 use Rattle.reader.specs.Order.{Answer, refused, done, both}
-use Rattle.reader.specs.Read.{answerAt, answered}
+use Rattle.reader.specs.Read.{answered}
 use Rattle.reader.specs.Taking.{followed, keptAt}
 use Rattle.receiver.specs.declared.Receiver.{Receiver}
 use Rattle.receiver.specs.declared.Step.{Step}
@@ -123,10 +123,3 @@ takes c room =
 -- what take gives back, and the lent buffer at exit, unchanged on anything but done
 abbrev pub takeOf : Receiver → List ℕ → Outcome Reading
 takeOf c buffer = answered (takes c (length buffer)) buffer
-
--- ---- all of it
-
--- what a buffer's symbols pushed one by one, finished and taken come to: what the reader answers with a report buffer of 127 bytes,
--- where the lent buffer has room for it
-abbrev pub receivedOf : ℕ → List ℕ → List ℕ → Outcome Reading
-receivedOf mode chips buffer = answered (roomFor (length buffer) (answerAt mode 127 chips)) buffer

@@ -4,7 +4,7 @@
 ghost use mathlib.Core.Path.{_≡_};
 ghost use Rattle.frame.specs.Outcome.{outcome};
 ghost use Rattle.reader.specs.Read.{told};
-ghost use Rattle.receiver.specs.Record.{step, fresh, startOf, forged, handOf, tookSymbol, pushOf, finishOf, takes, takeOf, receivedOf};
+ghost use Rattle.receiver.specs.Record.{step, fresh, startOf, forged, handOf, tookSymbol, pushOf, finishOf, takes, takeOf};
 
 // What a receiver is between two calls, in the order of the C interface.
 #[repr(C)]
@@ -205,22 +205,4 @@ fn begin(mode: u32, number: u32) -> Step
             octets: [0u8; 127],
         },
     }
-}
-
-// The whole of it over a chip buffer: start, a push for each whole symbol until the record ends, finish if it doesn't, and take. With a
-// report buffer of 127 bytes it answers what the reader answers; it is there to be compared with the reader.
-pub fn receive(mode: u32, chips: &[u8], report: &mut [u8]) -> reader::Reading
-    ensures { λ r. ⌜ outcome r (now (report .exit)) ≡ receivedOf mode (now (chips .entry)) (now (report .entry)) ⌝ }
-{
-    let size = codes::size_of(mode);
-    let mut receiver = Receiver::start(mode).receiver;
-    let mut at: usize = 0;
-    while receiver.ended == codes::MORE {
-        if chips.len() - at < size {
-            return receiver.finish().receiver.take(report);
-        }
-        receiver = receiver.push(&chips[at..at + size]).receiver;
-        at += size;
-    }
-    receiver.take(report)
 }

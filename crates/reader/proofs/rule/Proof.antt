@@ -42,6 +42,9 @@ add-if3 c = search needs
 mul-if3 : tie.Need-mul-if3
 mul-if3 c = search needs
 
+cast-if4 : tie.Need-cast-if4
+cast-if4 c = search needs
+
 returns-2 : tie.Need-returns-2
 returns-2 c = sym (rules-8 _ _ _ _ _ (off-7 (c .before .before)) (rw (ends-is _ 4 _ _ refl (c .before .if3 .taken)) (c .if4 .taken)))
 
@@ -79,6 +82,7 @@ rule-spec =
     returns
     add-if3
     mul-if3
+    cast-if4
     returns-2
     add-if5
     mul-if5

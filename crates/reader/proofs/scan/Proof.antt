@@ -8,7 +8,7 @@ use Rattle.codes.specs.Numbers.{NOCHIP}
 use Rattle.codes.specs.Radio.{radioOf}
 use Rattle.reader.specs.Taking.{stopped}
 use Rattle.reader.proofs.Scanning.{Scanning, Turning}
-use Rattle.reader.proofs.Scans.{bad-byte, size-positive, starts, runs-out, stops-bad, turns}
+use Rattle.reader.proofs.Modes.{bad-byte, size-positive, starts, runs-out, stops-bad, turns}
 use Rattle.reader.proofs.scan.Statement.{statement}
 use Rattle.reader.proofs.scan.Tie as tie
 use Rattle.reader.proofs.scan.Reads as reads

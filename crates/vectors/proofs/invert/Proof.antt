@@ -1,28 +1,22 @@
--- `apply` is safe and ends: it keeps the length. Assumes nothing.
+-- `invert` is safe and ends: it keeps the length. Assumes nothing.
 use mathlib.Core.Path.{_≡_}
-use Prim.Native.Nat.{_-_, _≤_}
+use Prim.Native.Nat.{_-_}
 use lib.ListN.{length}
 use borrow.Author.Needs.{needs}
-use Rattle.vectors.proofs.damage.Case.apply.Statement.{statement}
-use Rattle.vectors.proofs.damage.Case.apply.Tie as tie
+use Rattle.vectors.proofs.invert.Statement.{statement}
+use Rattle.vectors.proofs.invert.Tie as tie
 
 abbrev Inv-loop : tie.InvT-loop
-Inv-loop self chips₀ at i₀ chips i = (length chips ≡ length chips₀) × (at ≤ i)
+Inv-loop chips₀ i₀ chips i = length chips ≡ length chips₀
 
 abbrev μ-loop : tie.MeasureT-loop
-μ-loop self chips₀ at i₀ chips i = length chips₀ - i
+μ-loop chips₀ i₀ chips i = length chips₀ - i
 
 loop-holds : tie.Need-loop-holds Inv-loop μ-loop
 loop-holds c = search needs
 
-sub-changed : tie.Need-sub-changed Inv-loop μ-loop
-sub-changed c = search needs
-
-slice-read-changed : tie.Need-slice-read-changed Inv-loop μ-loop
-slice-read-changed c = search needs
-
-changed-requires : tie.Need-changed-requires Inv-loop μ-loop
-changed-requires c κs = search needs
+slice-read-chips : tie.Need-slice-read-chips Inv-loop μ-loop
+slice-read-chips c = search needs
 
 slice-write-chips : tie.Need-slice-write-chips Inv-loop μ-loop
 slice-write-chips c = search needs
@@ -42,16 +36,14 @@ same-length c = search needs
 returns : tie.Need-returns Inv-loop μ-loop
 returns c = search needs
 
-pub apply-spec : {M : Type 1} → statement M
-apply-spec =
+pub invert-spec : {M : Type 1} → statement M
+invert-spec =
     tie.close
     (tie.spec
     Inv-loop
     μ-loop
     loop-holds
-    sub-changed
-    slice-read-changed
-    changed-requires
+    slice-read-chips
     slice-write-chips
     add-i
     loop-less

@@ -25,7 +25,7 @@ use Rattle.reader.specs.Order.{reading}
 use Rattle.reader.specs.Taking.{begun, stopped, advanced, followed, roomed, keptAt, Tells}
 use Rattle.reader.proofs.Raw.{size-pos}
 use Rattle.reader.proofs.Carried.{Carries}
-use Rattle.reader.proofs.Turns.{Open, Turned, turned, room-for-any}
+use Rattle.reader.proofs.Turns.{Open, Turned, next-hand, room-for-any}
 use Rattle.reader.proofs.Sofar.{Sofar, Ways, symbol-taken}
 use Rattle.reader.proofs.Scanning.{Scanning, Turning, scan-starts, scan-out, scan-bad, turned-scan}
 
@@ -43,7 +43,7 @@ pub followed-turned : (mode : ℕ) → known mode ≡ true → (before : List Sy
     → Turned (radioOf mode) 127 before (symbolOf (radioOf mode) w) (followed mode h (symbolOf (radioOf mode) w))
 followed-turned mode m before h C O w =
     let x = symbolOf (radioOf mode) w in
-    turned (radioOf mode) (sound mode) (low mode) 127 before h C O w x refl (followed mode h x) (followed-is mode m h x (O .few))
+    next-hand (radioOf mode) (sound mode) (low mode) 127 before h C O w x refl (followed mode h x) (followed-is mode m h x (O .few))
 
 -- one symbol more of a list of windows
 pub symbol-followed : (mode : ℕ) → known mode ≡ true → (ws : List (List ℕ)) (octets : List ℕ) (h : Hand) → Sofar (radioOf mode) 127 ws octets h → h .taken < length ws

@@ -1,0 +1,46 @@
+-- What the documents print, against the definitions, by computation: the numbers given back, and the code words as source document
+-- 000 has them. Nothing else tells one number's name from another's, nor words turned right from words turned left: their distances
+-- are the same. Assumes nothing.
+use mathlib.Core.Path.{_≡_, refl}
+use mathlib.Core.List.{List, [], _∷_, map}
+use Prim.Native.Nat.{ℕ, zero, suc, _/_, _%_, _^_}
+use Rattle.codes.specs.Numbers.{DONE, BADMODE, TOOLONG, NOROOM, RUNOUT, NOCHIP, LOST, PREAMBLE, BADSTART, RESERVED, ENDED, BADPART, NOTENDED, MORE, FORGED}
+use Rattle.codes.specs.Radio.{bpsk, oqpsk, bpskWords, oqpskWord, oqpskWords, turned, turns, oddInverted, turnedWords}
+
+-- the numbers given back, in the order of document 01's table
+pub numbers-listed : (DONE ∷ BADMODE ∷ TOOLONG ∷ NOROOM ∷ RUNOUT ∷ NOCHIP ∷ LOST ∷ PREAMBLE ∷ BADSTART ∷ RESERVED ∷ ENDED ∷ BADPART ∷ NOTENDED ∷ MORE ∷ FORGED ∷ [])
+    ≡ (0 ∷ 1 ∷ 2 ∷ 3 ∷ 4 ∷ 5 ∷ 6 ∷ 7 ∷ 8 ∷ 9 ∷ 10 ∷ 11 ∷ 12 ∷ 13 ∷ 34 ∷ [])
+numbers-listed = refl
+
+-- a word of n chips as a table prints it: the decimal digits of a numeral, c0 at the left
+abbrev pub printed : ℕ → ℕ → List ℕ
+printed zero row = []
+printed (suc n) row = row / 10 ^ n % 10 ∷ printed n row
+
+-- Table 24: the words of input bits 0 and 1
+pub table-24 : bpsk .words ≡ map (printed 15) (111101011001000 ∷ 000010100110111 ∷ [])
+unfolding bpskWords
+table-24 = refl
+
+-- Table 21: the words of data symbols 0 to 15
+pub table-21 : oqpsk .words
+    ≡ map (printed 32)
+    (11011001110000110101001000101110
+    ∷ 11101101100111000011010100100010
+    ∷ 00101110110110011100001101010010
+    ∷ 00100010111011011001110000110101
+    ∷ 01010010001011101101100111000011
+    ∷ 00110101001000101110110110011100
+    ∷ 11000011010100100010111011011001
+    ∷ 10011100001101010010001011101101
+    ∷ 10001100100101100000011101111011
+    ∷ 10111000110010010110000001110111
+    ∷ 01111011100011001001011000000111
+    ∷ 01110111101110001100100101100000
+    ∷ 00000111011110111000110010010110
+    ∷ 01100000011101111011100011001001
+    ∷ 10010110000001110111101110001100
+    ∷ 11001001011000000111011110111000
+    ∷ [])
+unfolding oqpskWords turnedWords turns turned oddInverted oqpskWord
+table-21 = refl
