@@ -1,7 +1,9 @@
--- A promise settles what it speaks of: two outcomes that satisfy it are equal. And it asks nothing: whatever the arguments are, a
--- caller has nothing to show. `Settles` and `AsksNothing` speak of a function's own contract: of what its `ensures` says (`Post`) at
--- any lifetimes, arguments and parameters at exit, and of what its `requires` say (`Pre`). One law answers the first for each
--- public function whose promise is an equation; the second holds by itself where there is no `requires`. Assumes nothing.
+-- A promise settles what it speaks of: two outcomes that satisfy it are equal. And it asks nothing:
+-- whatever the arguments are, a caller has nothing to show. `Settles` and `AsksNothing` speak of a
+-- function's own contract: of what its `ensures` says (`Post`) at any lifetimes, arguments and
+-- parameters at exit, and of what its `requires` say (`Pre`). One law answers the first for each
+-- public function whose promise is an equation; the second holds by itself where there is no
+-- `requires`. Assumes nothing.
 use mathlib.Core.Path.{_≡_, sym, _∙_}
 use mathlib.Core.List.{List}
 use Prim.Native.Nat.{ℕ}

@@ -1,5 +1,6 @@
--- The demands, and the laws that they stand on, leaves first. To be read are Demand1, Demand2, Demand3 and, from it, PutRight, NoFlat,
--- OneAnswer and Reader; of the stepping receiver Stepped, Stray, Forged, Short and Given. Each opens with what it says in plain words.
+-- The demands, and the laws that they stand on, leaves first. To be read are Demand1, Demand2,
+-- Demand3 and, from it, PutRight, NoFlat, OneAnswer and Reader; of the stepping receiver Stepped,
+-- Stray, Forged, Short and Given. Each opens with what it says in plain words.
 pub mod Digits
 pub mod Back
 pub mod Octet

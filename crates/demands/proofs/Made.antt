@@ -1,5 +1,6 @@
--- The records that the calls make, from start on: each keeps its mode and its 127 octets; it carries the symbols before and wants more,
--- or its frame is complete, or a refusal ended it. Assumes nothing.
+-- The records that the calls make, from start on: each keeps its mode and its 127 octets; it
+-- carries the symbols before and wants more, or its frame is complete, or a refusal ended it.
+-- Assumes nothing.
 use mathlib.Core.Path.{_≡_, refl, sym, _∙_}
 use mathlib.Core.Bool.{true, false}
 use mathlib.Core.List.{List, [], _∷_}
@@ -18,7 +19,7 @@ use Rattle.codes.proofs.Tests.{by-test, not-both}
 use Rattle.codes.proofs.Facts.{sound}
 use Rattle.frame.specs.Frame.{perOctet}
 use Rattle.reader.specs.declared.Hand.{Hand}
-use Rattle.reader.specs.Taking.{onward, keptIn, keptAt, Complete}
+use Rattle.reader.specs.Taking.{keptIn, keptAt, Complete}
 use Rattle.reader.proofs.Carried.{Carries, carries-none}
 use Rattle.reader.proofs.Turns.{Open, open-begun}
 use Rattle.reader.proofs.Gathered.{kept-long}

@@ -1,5 +1,5 @@
--- No symbol of an accepted frame is flat, all 0 or all 1: for any sound radio whose words are all farther than the limit from both
--- flat words. Assumes nothing.
+-- No symbol of an accepted frame is flat, all 0 or all 1: for any sound radio whose words are all
+-- farther than the limit from both flat words. Assumes nothing.
 use mathlib.Core.Path.{_≡_}
 use mathlib.Core.List.{List}
 use Prim.Native.Nat.{ℕ, _≤_, _<_}

@@ -1,6 +1,7 @@
--- Demand 3 of the reader's whole outcome, answer and report buffer, in a mode that has a radio: what is shown of the reading is so of
--- the reader; putting a wrong chip right lowers its count by one; no frame that it accepts holds a flat symbol; a reader that gives
--- number 0 has read a report; and a report is read alike into any buffer with room. Assumes nothing.
+-- Demand 3 of the reader's whole outcome, answer and report buffer, in a mode that has a radio:
+-- what is shown of the reading is so of the reader; putting a wrong chip right lowers its count by
+-- one; no frame that it accepts holds a flat symbol; a reader that gives number 0 has read a
+-- report; and a report is read alike into any buffer with room. Assumes nothing.
 use mathlib.Core.Path.{_≡_, refl, sym, ap, _∙_}
 use mathlib.Core.Logic.{_↔_}
 use mathlib.Core.Bool.{true}

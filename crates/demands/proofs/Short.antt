@@ -1,16 +1,16 @@
--- Take's 3, of a record that calls made: there is a report, for which the lent buffer is too short; take gives it into any buffer with
--- room; and the 3 stands at the number of symbols of that report's frame. Assumes nothing.
+-- Take's 3, of a record that calls made: there is a report, for which the lent buffer is too short;
+-- take gives it into any buffer with room; and the 3 stands at the number of symbols of that
+-- report's frame. Assumes nothing.
 use mathlib.Core.Path.{_≡_, refl, sym, ap, _∙_}
 use mathlib.Core.Bool.{true, false}
 use mathlib.Core.List.{List}
-use mathlib.Core.Logic.{inr}
-use Prim.Native.Nat.{ℕ, _+_, _*_, _≤_, _<_}
+use Prim.Native.Nat.{ℕ, _+_, _*_, _<_}
 use native.Mathlib.Omega.{arith}
 use lib.Dec.{ltb}
 use lib.ListN.{length, take}
 use lib.Seq.{length-take-le}
 use borrow.Author.Tests.{ltb-true, ltb-false}
-use Rattle.codes.specs.Numbers.{DONE, NOROOM, NOTENDED, MORE}
+use Rattle.codes.specs.Numbers.{DONE, NOROOM, MORE}
 use Rattle.codes.specs.Radio.{known, radioOf}
 use Rattle.codes.proofs.Tests.{by-test}
 use Rattle.frame.specs.Frame.{perOctet, symbols}
@@ -21,7 +21,6 @@ use Rattle.reader.specs.Taking.{Complete}
 use Rattle.receiver.specs.declared.Receiver.{Receiver}
 use Rattle.receiver.specs.Record.{startOf, forged, handOf, takes, takeOf}
 use Rattle.receiver.proofs.Ways.{takes-open, takes-refused, takes-short, takes-done}
-use Rattle.demands.specs.Words.{success}
 use Rattle.demands.specs.Calls.{Call, after, Short}
 use Rattle.demands.proofs.Made.{Honest, wanting, complete, ended, Made, not-ending, passes, made}
 

@@ -1,6 +1,7 @@
--- The stepping receiver is the reader: a buffer's whole symbols pushed in order until the record ends, finished if it doesn't, and taken
--- into 127 bytes, come to what the reader answers with a report buffer of 127 bytes; calls that answered 10, 11 or 12 in between make no
--- difference. For every mode number. Assumes nothing.
+-- The stepping receiver is the reader: a buffer's whole symbols pushed in order until the record
+-- ends, finished if it doesn't, and taken into 127 bytes, come to what the reader answers with a
+-- report buffer of 127 bytes; calls that answered 10, 11 or 12 in between make no difference. For
+-- every mode number. Assumes nothing.
 use mathlib.Core.Path.{_≡_, refl, sym, ap, _∙_, subst}
 use mathlib.Core.Bool.{true, false, not}
 use mathlib.Core.List.{List, [], _∷_}
@@ -141,12 +142,13 @@ module _ (mode : ℕ) (chips : List ℕ) where
           let p = answer-place (radioOf mode) (sound mode) 127 chips report count place e in
           rw (le-ltb 127 (length report) (answer-room (radioOf mode) (sound mode) 127 chips report count (e ∙ ap (λ (s : ℕ). done s report count) p)))
 
-  -- None of the calls in order answers 10, 11 or 12: so what `steps-read` supposes of a list of calls is so of them, and of them with such
-  -- calls put in anywhere (`stray-between`).
+  -- None of the calls in order answers 10, 11 or 12: so what `steps-read` supposes of a list of
+  -- calls is so of them, and of them with such calls put in anywhere (`stray-between`).
   pub in-order-counts : counted begun (inOrder begun (whole (radioOf mode) chips)) ≡ inOrder begun (whole (radioOf mode) chips)
   in-order-counts = steps-answer .1
 
-  -- The symbols in order, taken into any buffer: what the reader answers with room for 127 octets, where this one has room for it.
+  -- The symbols in order, taken into any buffer: what the reader answers with room for 127 octets,
+  -- where this one has room for it.
   pub in-order-takes : (buffer : List ℕ)
       → takeOf (after begun (inOrder begun (whole (radioOf mode) chips))) buffer ≡ answered (roomFor (length buffer) (answerAt mode 127 chips)) buffer
   in-order-takes buffer = ap (λ (a : Answer). answered a buffer) (steps-answer .0 .same (length buffer))

@@ -1,5 +1,5 @@
--- Lists of calls of the stepping receiver, records that no calls make, and records whose report has no room: the words that its
--- theorems are stated with.
+-- Lists of calls of the stepping receiver, records that no calls make, and records whose report has
+-- no room: the words that its theorems are stated with.
 use mathlib.Core.Path.{_≡_}
 use Prim.Native.Nat.{ℕ, _*_, _≤_, _<_}
 use mathlib.Core.Bool.{Bool, false}
@@ -56,16 +56,26 @@ unfoldable pub inOrder : Receiver → List (List ℕ) → List Call
 inOrder c [] = pick (isOpen c) (finishing ∷ []) []
 inOrder c (w ∷ ws) = pick (isOpen c) (pushing w ∷ inOrder (pushOf c w .receiver) ws) []
 
--- An open record that no calls make: its mode has no radio, its length is above 127, its count is above the accepted distance times
--- the symbols taken, or the symbols taken are not fewer than those of the frame of a report of that length.
-pub data Unmade (c : Receiver) : Type 0 where
-  no-radio : known (c .mode) ≡ false → Unmade c
-  too-long : 127 < c .length → Unmade c
-  too-many-repaired : radioOf (c .mode) .limit * c .taken < c .count → Unmade c
-  frame-taken : ((report : List ℕ) → length report ≡ c .length → length (symbols (radioOf (c .mode)) report) ≤ c .taken) → Unmade c
+-- A record that no calls make, where `wrong` says what no record of a frame with so many symbols
+-- has: its mode has no radio, its length is above 127, its count is above the accepted distance
+-- times the symbols taken, or it is wrong for the number of symbols of the frame of a report of
+-- that length.
+pub data Unmade (wrong : ℕ → Type 0) (c : Receiver) : Type 0 where
+  no-radio : known (c .mode) ≡ false → Unmade wrong c
+  too-long : 127 < c .length → Unmade wrong c
+  too-many-repaired : radioOf (c .mode) .limit * c .taken < c .count → Unmade wrong c
+  wrong-total : ((report : List ℕ) → length report ≡ c .length → wrong (length (symbols (radioOf (c .mode)) report))) → Unmade wrong c
 
--- The record holds a report for which the buffer is too short: take gives it into any buffer with room, and into this one a 3 at the
--- number of symbols of the report's frame, with nothing stored.
+-- an open one: the symbols taken are not fewer than those
+abbrev pub UnmadeOpen : Receiver → Type 0
+UnmadeOpen c = Unmade (λ total. total ≤ c .taken) c
+
+-- one that ended well: they are not those
+abbrev pub UnmadeWell : Receiver → Type 0
+UnmadeWell c = Unmade (λ total. c .taken ≡ total → ⊥) c
+
+-- The record holds a report for which the buffer is too short: take gives it into any buffer with
+-- room, and into this one a 3 at the number of symbols of the report's frame, with nothing stored.
 pub record Short (mode : ℕ) (c : Receiver) (buffer report : List ℕ) (count : ℕ) : Type 0 where
   pub short : length buffer < length report
   pub given : (other : List ℕ) → length report ≤ length other → takeOf c other ≡ success mode other report count

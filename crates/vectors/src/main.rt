@@ -1,9 +1,11 @@
-// Runs the writer and the reader on what document 01 marks "run and compared", and writes four whole frames out chip by chip, all to
-// be compared with the file stdout. The chip strings there were made of tables 21 and 24 of the draft standard, and the other lines
-// were worked out from the rules of document 01: neither by this code. What is printed isn't proved but compared; the proofs show that
-// no place outside a buffer is used and that each loop ends. They go through because a length is tested before it is used, and
-// because the writer promises a count that fits the buffer (`chips-fit`). A case that didn't fit would print no line, and the
-// comparison would show that. Bytes are handed on one at a time, not as strings: a string in a call is dear to check.
+// Runs the writer and the reader on what document 01 marks "run and compared", and writes four
+// whole frames out chip by chip, all to be compared with the file stdout. The chip strings there
+// were made of tables 21 and 24 of the draft standard, and the other lines were worked out from the
+// rules of document 01: neither by this code. What is printed isn't proved but compared; the proofs
+// show that no place outside a buffer is used and that each loop ends. They go through because a
+// length is tested before it is used, and because the writer promises a count that fits the buffer
+// (`chips-fit`). A case that didn't fit would print no line, and the comparison would show that.
+// Bytes are handed on one at a time, not as strings: a string in a call is dear to check.
 ghost use mathlib.Core.Path.{_≡_};
 ghost use lib.ListN.{length};
 use libc::STDOUT_FILENO;
@@ -43,7 +45,8 @@ fn buffer() -> [u8; LONGEST]
     [255; LONGEST]
 }
 
-// The first so many octets written into so much of the room: prints mode, octets, room, number, chips.
+// The first so many octets written into so much of the room: prints mode, octets, room, number,
+// chips.
 fn write_line(mode: u32, report: &[u8], octets: usize, chips: &mut [u8], room: usize) {
     if report.len() < octets {
         return;
@@ -59,7 +62,8 @@ fn write_line(mode: u32, report: &[u8], octets: usize, chips: &mut [u8], room: u
     number(written.chips as u64, b'\n');
 }
 
-// The first so many chips read with room for 127 octets: prints mode, chips, number, place, n, count.
+// The first so many chips read with room for 127 octets: prints mode, chips, number, place, n,
+// count.
 fn read_line(mode: u32, chips: &[u8], count: usize) {
     if chips.len() < count {
         return;
