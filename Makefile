@@ -21,6 +21,8 @@ CASES =
 CC = host/cc
 CFLAGS = -std=c99 -O2 -Wall -Wextra -pedantic -Werror -Ibuild
 ARCHIVE = build/liblernazhup.a
+# the programs; the test has the library proved beside them, so that two crates are proved at a time
+CRATES = send bench
 TOOLS = Makefile host/cc host/sanitizers
 # what the archive is made of
 PROVED := $(shell find crates/codes crates/frame crates/reader crates/receiver crates/gateway -name '*.rt' -o -name '*.antt')
@@ -41,12 +43,13 @@ send: programs
 
 test:
 	@host/kit
-	@$(MAKE) --no-print-directory programs lib
+	@$(MAKE) --no-print-directory programs lib CRATES='$(CRATES) gateway'
 	@$(MAKE) --no-print-directory outside
 	@rt ci
 
 # every test from outside; each prints a line of counts, and fails where something is wrong
 outside: build/fields build/compare build/stack build/example build/vectors build/speed
+	@host/contracts-test
 	@host/header-test
 	@host/install-test
 	@host/exec build/fields
@@ -64,12 +67,11 @@ speed: lib build/speed build/stack
 	@host/exec build/stack
 	@host/sizes
 
-# proves what has changed and links the programs; quiet unless it fails. The library is proved along with them: crates that don't use
-# each other are proved side by side
+# proves what has changed and links the programs; quiet unless it fails
 programs:
 	@mkdir -p build
 	@[ -f target/bin/bench ] || echo 'proving the programs and what they stand on: a minute or two the first time'
-	@rt check send bench gateway >build/programs.log 2>&1 || { tail -n 20 build/programs.log >&2; exit 1; }
+	@rt check $(CRATES) >build/programs.log 2>&1 || { tail -n 20 build/programs.log >&2; exit 1; }
 
 lib: $(ARCHIVE) build/lernazhup.h build/lernazhup.pc
 	@:

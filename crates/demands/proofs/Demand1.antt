@@ -12,11 +12,12 @@ use Rattle.codes.specs.Radio.{known, radioOf}
 use Rattle.codes.specs.Chips.{among}
 use Rattle.frame.specs.declared.Written.{Written}
 use Rattle.frame.specs.Outcome.{Outcome, outcome}
-use Rattle.frame.specs.Frame.{frame}
+use Rattle.frame.specs.Frame.{perOctet, frame}
 use Rattle.frame.specs.Write.{unwritten, wrote, written}
 use Rattle.reader.specs.Order.{Answer, refused, done, reading}
 use Rattle.reader.specs.Read.{told, left, answerAt, readOf}
-use Rattle.demands.proofs.Fair.{by-pick, refusals, Fair, answer-fair}
+use Rattle.demands.specs.Words.{Placed}
+use Rattle.demands.proofs.Fair.{by-pick, refusals, Fair, answer-fair, Standing, elsewhere, answer-placed}
 
 -- ---- the reader
 
@@ -47,6 +48,21 @@ read-numbers mode chips buffer = by-pick P (known mode) _ _ (λ _. go (reading (
     go : (a : Answer) → Fair a → P a
     go (refused x place) f = among-more x DONE (BADMODE ∷ refusals) (among-more x BADMODE refusals f)
     go (done place report count) f = refl
+
+-- And each stands where the reading order lets it: 7 in the preamble, 8 on the last symbol of the
+-- start octet, 9 and 3 on that of the length octet.
+pub read-places : (mode : ℕ) (chips buffer : List ℕ)
+    → Placed (perOctet (radioOf mode)) (readOf mode chips buffer .answer .number) (readOf mode chips buffer .answer .place)
+unfolding answerAt told
+read-places mode chips buffer =
+    by-pick P (known mode) _ _ (λ _. go (reading (radioOf mode) (length buffer) chips) (answer-placed _ _ _)) (λ _. elsewhere _ _ _ refl)
+  where
+    P : Answer → Type 0
+    P a = Placed (perOctet (radioOf mode)) (told a .number) (told a .place)
+
+    go : (a : Answer) → Standing (perOctet (radioOf mode)) a → P a
+    go (refused x place) f = f
+    go (done place report count) f = elsewhere _ _ _ refl
 
 -- A mode that has no radio: its number at place 0, before any symbol.
 pub read-bad-mode : (mode : ℕ) (chips buffer : List ℕ) → known mode ≡ false

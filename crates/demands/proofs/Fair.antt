@@ -1,20 +1,23 @@
--- The numbers that the reading refuses with, of which the number of success is none. For any radio. Assumes nothing.
+-- The numbers that the reading refuses with, of which the number of success is none, and where in
+-- the frame they stand. For any radio. Assumes nothing.
 use mathlib.Core.Path.{_≡_, refl}
 use mathlib.Core.Bool.{Bool, true, false, not}
 use mathlib.Core.List.{List, [], _∷_, _++_}
-use Prim.Native.Nat.{ℕ, _+_, _*_}
+use Prim.Native.Nat.{ℕ, suc, _+_, _*_}
+use native.Mathlib.Omega.{arith}
 use lib.ListN.{length}
 use lib.Dec.{eqb, ltb}
-use borrow.Author.Tests.{eqb-false}
+use borrow.Author.Tests.{eqb-true, eqb-false, ltb-true}
 use Rattle.codes.specs.declared.Symbol.{Symbol}
 use Rattle.codes.specs.Numbers.{DONE, NOROOM, RUNOUT, NOCHIP, LOST, PREAMBLE, BADSTART, RESERVED, MORE}
 use Rattle.codes.specs.Chips.{pick, bad, among}
 use Rattle.codes.specs.Radio.{Radio}
 use Rattle.codes.specs.Symbol.{valued, symbolOf}
 use Rattle.codes.proofs.Tests.{not-both}
-use Rattle.frame.specs.Frame.{startOctet}
+use Rattle.frame.specs.Frame.{startOctet, perOctet}
 use Rattle.reader.specs.Order.{Answer, refused, done, both, ends, rules, values, verdict, concluded, taking, readingFrom, reading, whole}
 use Rattle.reader.specs.Received.{received}
+use Rattle.demands.specs.Words.{Placed}
 
 -- what is true of either side of a choice is true of the choice
 pub by-pick : {A : Type 0} (P : A → Type 0) (b : Bool) (x y : A) → (b ≡ true → P x) → (b ≡ false → P y) → P (pick b x y)
@@ -53,28 +56,84 @@ rules-fair per room s raw start n =
     P : ℕ → Type 0
     P z = (z ≡ MORE → ⊥) → (z ≡ DONE → ⊥) → among z refusals ≡ true
 
--- a symbol in hand, where what follows it is so
-taking-fair : (r : Radio) (room : ℕ) (before : List Symbol) (w : List ℕ) (next : Answer) → Fair next → Fair (taking r room before (symbolOf r w) next)
-unfolding taking concluded
-taking-fair r room before w next f =
-    by-pick Fair (eqb (symbolOf r w .number) DONE) _ _
-    (λ _. by-pick Fair (eqb x MORE) _ _ (λ _. f)
-    (λ m. by-pick Fair (eqb x DONE) _ _ (λ _. tt) (λ d. rules-fair _ _ _ _ _ _ (eqb-false x MORE m) (eqb-false x DONE d))))
-    (λ n. symbol-fair r w (eqb-false (symbolOf r w .number) DONE n))
-  where
-    x : ℕ
-    x = verdict r room (length before) (received r (values (before ++ symbolOf r w ∷ [])))
+-- What is true of each way that a reading can end is true of every reading: no chips left, a symbol
+-- that isn't read, a rule that refuses, done.
+module _ (r : Radio) (room : ℕ) (P : Answer → Type 0) (out : (s : ℕ) → P (refused RUNOUT s))
+    (unread : (s : ℕ) (w : List ℕ) → (symbolOf r w .number ≡ DONE → ⊥) → P (refused (symbolOf r w .number) s))
+    (refusing : (s raw start n : ℕ) → (rules (perOctet r) room s raw start n ≡ MORE → ⊥) → (rules (perOctet r) room s raw start n ≡ DONE → ⊥)
+    → P (refused (rules (perOctet r) room s raw start n) s))
+    (well : (place : ℕ) (report : List ℕ) (count : ℕ) → P (done place report count)) where
+  -- a symbol in hand, where what follows it is so
+  taking-ways : (before : List Symbol) (w : List ℕ) (next : Answer) → P next → P (taking r room before (symbolOf r w) next)
+  unfolding taking concluded
+  taking-ways before w next f =
+      by-pick P (eqb (symbolOf r w .number) DONE) _ _
+      (λ _. by-pick P (eqb x MORE) _ _ (λ _. f)
+      (λ m. by-pick P (eqb x DONE) _ _ (λ _. well _ _ _) (λ d. refusing (length before) _ _ _ (eqb-false x MORE m) (eqb-false x DONE d))))
+      (λ n. unread (length before) w (eqb-false (symbolOf r w .number) DONE n))
+    where
+      x : ℕ
+      x = verdict r room (length before) (received r (values (before ++ symbolOf r w ∷ [])))
 
--- the reading of any windows after any symbols
-reading-fair : (r : Radio) (room : ℕ) (before : List Symbol) (ws : List (List ℕ)) → Fair (readingFrom r room before ws)
-unfolding readingFrom
-reading-fair r room before [] = refl
-reading-fair r room before (w ∷ ws) = taking-fair r room before w _ (reading-fair r room (before ++ symbolOf r w ∷ []) ws)
+  from-ways : (before : List Symbol) (ws : List (List ℕ)) → P (readingFrom r room before ws)
+  unfolding readingFrom
+  from-ways before [] = out (length before)
+  from-ways before (w ∷ ws) = taking-ways before w _ (from-ways (before ++ symbolOf r w ∷ []) ws)
+
+  reading-ways : (chips : List ℕ) → P (reading r room chips)
+  unfolding reading
+  reading-ways chips = from-ways [] (whole r chips)
 
 -- the reading of a whole buffer
 pub answer-fair : (r : Radio) (room : ℕ) (chips : List ℕ) → Fair (reading r room chips)
-unfolding reading
-answer-fair r room chips = reading-fair r room [] (whole r chips)
+answer-fair r room =
+    reading-ways r room Fair (λ s. refl) (λ s w. symbol-fair r w) (λ s raw start n. rules-fair (perOctet r) room s raw start n) (λ place report count. tt)
+
+-- ---- where they stand
+
+-- an answer is done, or refused where the reading order lets it be
+abbrev pub Standing : ℕ → Answer → Type 0
+Standing per (refused x place) = Placed per x place
+Standing per (done place report count) = Unit {0}
+
+-- another number than those four may stand anywhere
+pub elsewhere : (per x place : ℕ) → among x (PREAMBLE ∷ BADSTART ∷ RESERVED ∷ NOROOM ∷ []) ≡ false → Placed per x place
+elsewhere per x place f =
+    record { preamble = λ e. other PREAMBLE e refl; start = λ e. other BADSTART e refl; reserved = λ e. other RESERVED e refl; room = λ e. other NOROOM e refl }
+  where
+    other : {A : Type 0} (y : ℕ) → x ≡ y → among y (PREAMBLE ∷ BADSTART ∷ RESERVED ∷ NOROOM ∷ []) ≡ true → A
+    other y e t = not-both (among y (PREAMBLE ∷ BADSTART ∷ RESERVED ∷ NOROOM ∷ [])) t (rw e at f)
+
+symbol-placed : (per s : ℕ) (r : Radio) (w : List ℕ) → Placed per (symbolOf r w .number) s
+unfolding symbolOf valued
+symbol-placed per s r w =
+    by-pick (λ (z : Symbol). Placed per (z .number) s) (bad w) _ _ (λ _. elsewhere per NOCHIP s refl)
+    (λ _. by-pick (λ (z : Symbol). Placed per (z .number) s) (ltb _ (length (r .words))) _ _ (λ _. elsewhere per DONE s refl) (λ _. elsewhere per LOST s refl))
+
+first-of : (a b : Bool) → both a b ≡ true → a ≡ true
+first-of true b e = refl
+first-of false b e = e
+
+rules-placed : (per room s raw start n : ℕ) → Placed per (rules per room s raw start n) s
+unfolding rules
+rules-placed per room s raw start n =
+    by-pick P (both (ltb s (4 * per)) (not (eqb raw 0))) _ _
+    (λ t. let h = ltb-true s (4 * per) (first-of _ _ t) in record { preamble = λ _. h; start = λ e. absurd (omega (arith, e)); reserved = λ e. absurd (omega (arith, e)); room = λ e. absurd (omega (arith, e)) })
+    (λ _. by-pick P (both (ends per 4 s) (not (eqb start startOctet))) _ _
+    (λ t. let h = eqb-true (suc s) (5 * per) (first-of _ _ t) in record { preamble = λ e. absurd (omega (arith, e)); start = λ _. h; reserved = λ e. absurd (omega (arith, e)); room = λ e. absurd (omega (arith, e)) })
+    (λ _. by-pick P (both (ends per 5 s) (ltb 127 n)) _ _
+    (λ t. let h = eqb-true (suc s) (6 * per) (first-of _ _ t) in record { preamble = λ e. absurd (omega (arith, e)); start = λ e. absurd (omega (arith, e)); reserved = λ _. h; room = λ _. h })
+    (λ _. by-pick P (both (ends per 5 s) (ltb room n)) _ _
+    (λ t. let h = eqb-true (suc s) (6 * per) (first-of _ _ t) in record { preamble = λ e. absurd (omega (arith, e)); start = λ e. absurd (omega (arith, e)); reserved = λ _. h; room = λ _. h })
+    (λ _. by-pick P (ends per (5 + n) s) _ _ (λ _. elsewhere per DONE s refl) (λ _. elsewhere per MORE s refl)))))
+  where
+    P : ℕ → Type 0
+    P z = Placed per z s
+
+pub answer-placed : (r : Radio) (room : ℕ) (chips : List ℕ) → Standing (perOctet r) (reading r room chips)
+answer-placed r room =
+    reading-ways r room (Standing (perOctet r)) (λ s. elsewhere (perOctet r) RUNOUT s refl) (λ s w _. symbol-placed (perOctet r) s r w)
+    (λ s raw start n _ _. rules-placed (perOctet r) room s raw start n) (λ place report count. tt)
 
 -- done is none of these numbers
 pub done-unfair : (x : ℕ) → x ≡ DONE → among x refusals ≡ true → ⊥

@@ -1,16 +1,17 @@
--- Which records are answered 34: of those that are open or ended well just the ones that no calls
--- make, in the words of frames; and none that start gave, carried on by push and finish alone (take
--- never changes it). Assumes nothing.
+-- Which records are answered 34: of those that are open or ended well just the ones that fail one of
+-- the document's four tests, in the words of frames; and none that start gave, carried on by push
+-- and finish alone (take never changes it). And what finish and take make of every record, and push
+-- of one that takes no symbol. Assumes nothing.
 use mathlib.Core.Path.{_≡_, refl, sym, ap, _∙_}
 use mathlib.Core.Bool.{true, false, not}
 use mathlib.Core.List.{List}
-use mathlib.Core.Logic.{_⊎_, inl, inr, ⊎-elim, _↔_}
+use mathlib.Core.Logic.{_⊎_, inl, inr, _↔_}
 use Prim.Native.Nat.{ℕ, _+_, _*_, _≤_}
 use native.Mathlib.Omega.{arith}
 use lib.Dec.{eqb, ltb}
 use lib.ListN.{length, replicate, length-replicate}
 use borrow.Author.Tests.{eqb-false, ne-eqb, ltb-true, ltb-false, leb-true, le-leb, not-true}
-use Rattle.codes.specs.Numbers.{DONE, MORE, FORGED}
+use Rattle.codes.specs.Numbers.{DONE, RUNOUT, ENDED, NOTENDED, MORE, FORGED}
 use Rattle.codes.specs.Radio.{known, radioOf}
 use Rattle.codes.specs.Symbol.{symbolOf}
 use Rattle.codes.specs.Lent.{limitAt}
@@ -18,12 +19,12 @@ use Rattle.codes.proofs.Tests.{by-test, not-both}
 use Rattle.frame.specs.Frame.{perOctet, symbols}
 use Rattle.frame.proofs.Count.{symbols-long}
 use Rattle.reader.specs.Order.{Answer}
-use Rattle.reader.specs.Read.{told}
+use Rattle.reader.specs.Read.{told, left, answered}
 use Rattle.receiver.specs.declared.Receiver.{Receiver}
 use Rattle.receiver.specs.declared.Step.{Step}
-use Rattle.receiver.specs.Record.{startOf, forged, tookSymbol}
-use Rattle.receiver.proofs.Ways.{number-of-symbols, forged-no-radio, forged-long, forged-count, last-test, forged-open, forged-ended, push-forged, finish-forged, takes-forged}
-use Rattle.demands.specs.Calls.{Call, pushing, finishing, taking, called, after, Unmade, no-radio, too-long, too-many-repaired, wrong-total, UnmadeOpen, UnmadeWell}
+use Rattle.receiver.specs.Record.{step, startOf, total, forged, tookSymbol, pushOf, endedWith, finishOf, takeOf}
+use Rattle.receiver.proofs.Ways.{number-of-symbols, forged-no-radio, forged-long, forged-count, last-test, forged-open, forged-ended, forged-refused, push-forged, push-ended, finish-forged, finish-ended, finish-open, takes-forged, takes-open, takes-refused}
+use Rattle.demands.specs.Calls.{Call, pushing, finishing, taking, called, after, Faulty, no-radio, too-long, too-many-repaired, misfits, FaultyOpen, FaultyWell, tells, Idle}
 use Rattle.demands.proofs.Given.{among-pass, ofSymbol, push-ways, took-given, finish-ways, takes-ways}
 use Rattle.demands.proofs.Made.{Honest, wanting, complete, ended, not-ending, passes, made}
 
@@ -46,33 +47,30 @@ called-passed c f n finishing =
 called-passed c f n (taking buffer) =
     takes-ways c (length buffer) (λ (a : Answer). told a .number ≡ FORGED → ⊥) (λ t e. not-both (forged c) t f) (λ e. omega (arith, e)) (λ e. omega (arith, e)) (λ e. omega (arith, e)) (λ m d. n)
 
--- ---- records that are open or ended well
+-- ---- the tests of a record that is open or ended well, in the words of frames
 
-module _ (c : Receiver) (g : (c .ended ≡ MORE) ⊎ (c .ended ≡ DONE)) (wrong : ℕ → Type 0) where
-  abbrev total : ℕ
-  total = (6 + c .length) * perOctet (radioOf (c .mode))
-
+module _ (c : Receiver) (g : (c .ended ≡ MORE) ⊎ (c .ended ≡ DONE)) (misfit : ℕ → Type 0) where
   -- the symbols of the frame of a report of the length held
-  frame-total : (report : List ℕ) → length report ≡ c .length → length (symbols (radioOf (c .mode)) report) ≡ total
+  frame-total : (report : List ℕ) → length report ≡ c .length → length (symbols (radioOf (c .mode)) report) ≡ total c
   frame-total report l = symbols-long (radioOf (c .mode)) report ∙ ap (λ (n : ℕ). (6 + n) * perOctet (radioOf (c .mode))) l
 
   -- where the other tests pass, the test of the number of symbols decides
-  module _ (decides : forged c ≡ number-of-symbols c (perOctet (radioOf (c .mode))) → (forged c ≡ true) ↔ wrong total) where
-    last : known (c .mode) ≡ true → c .length ≤ 127 → c .count ≤ radioOf (c .mode) .limit * c .taken → (forged c ≡ true) ↔ wrong total
+  module _ (decides : forged c ≡ number-of-symbols c (perOctet (radioOf (c .mode))) → (forged c ≡ true) ↔ misfit (total c)) where
+    last : known (c .mode) ≡ true → c .length ≤ 127 → c .count ≤ radioOf (c .mode) .limit * c .taken → (forged c ≡ true) ↔ misfit (total c)
     last k s b =
         let e : radioOf (c .mode) .limit ≡ limitAt (c .mode) = rw k in
         decides (last-test c g k s (radioOf (c .mode) .limit) e b (perOctet (radioOf (c .mode))) refl)
 
-    forged-unmade : forged c ≡ true → Unmade wrong c
-    forged-unmade t =
+    forged-faulty : forged c ≡ true → Faulty misfit c
+    forged-faulty t =
         by-test (known (c .mode))
         (λ k. by-test (ltb 127 (c .length)) (λ l. too-long (ltb-true _ _ l))
         (λ l. by-test (ltb (radioOf (c .mode) .limit * c .taken) (c .count)) (λ b. too-many-repaired (ltb-true _ _ b))
-        (λ b. wrong-total (λ report h. rw (frame-total report h) (last k (ltb-false _ _ l) (ltb-false _ _ b) .0 t)))))
+        (λ b. misfits (λ report h. rw (frame-total report h) (last k (ltb-false _ _ l) (ltb-false _ _ b) .0 t)))))
         (λ k. no-radio k)
 
-    unmade-forged : Unmade wrong c → forged c ≡ true
-    unmade-forged u =
+    faulty-forged : Faulty misfit c → forged c ≡ true
+    faulty-forged u =
         by-test (known (c .mode))
         (λ k. by-test (ltb 127 (c .length)) (λ l. sym (forged-long c g k (ltb-true _ _ l)))
         (λ l. by-test (ltb (radioOf (c .mode) .limit * c .taken) (c .count))
@@ -80,36 +78,96 @@ module _ (c : Receiver) (g : (c .ended ≡ MORE) ⊎ (c .ended ≡ DONE)) (wrong
         (λ b. go k (ltb-false _ _ l) (ltb-false _ _ b) u)))
         (λ k. sym (forged-no-radio c g k))
       where
-        go : known (c .mode) ≡ true → c .length ≤ 127 → c .count ≤ radioOf (c .mode) .limit * c .taken → Unmade wrong c → forged c ≡ true
+        go : known (c .mode) ≡ true → c .length ≤ 127 → c .count ≤ radioOf (c .mode) .limit * c .taken → Faulty misfit c → forged c ≡ true
         go k s b (no-radio n) = not-both (known (c .mode)) k n
         go k s b (too-long l) = absurd (omega arith)
         go k s b (too-many-repaired m) = absurd (omega arith)
-        go k s b (wrong-total t) =
+        go k s b (misfits t) =
             let report : List ℕ = replicate (c .length) 0 in
             let l : length report ≡ c .length = length-replicate (c .length) 0 in
             last k s b .1 (rw (frame-total report l) at (t report l))
 
-    called-unmade : (x : Call) → (called c x .number ≡ FORGED) ↔ Unmade wrong c
-    called-unmade x = (
-      λ e. by-test (forged c) forged-unmade (λ f. absurd (called-passed c f (λ n. ⊎-elim (λ m. omega (arith, m, n)) (λ d. omega (arith, d, n)) g) x e)),
-      λ u. called-forged c (unmade-forged u) x,
-    )
+    tested : (forged c ≡ true) ↔ Faulty misfit c
+    tested = (forged-faulty, faulty-forged)
 
--- Whatever is called, an open record is answered 34 exactly where no calls make it.
-pub open-forged : (c : Receiver) → c .ended ≡ MORE → (x : Call) → (called c x .number ≡ FORGED) ↔ UnmadeOpen c
-open-forged c o =
-    called-unmade c (inl o) _
+open-tested : (c : Receiver) → c .ended ≡ MORE → (forged c ≡ true) ↔ FaultyOpen c
+open-tested c o =
+    tested c (inl o) _
     (λ t.
     let e = forged-open c (perOctet (radioOf (c .mode))) t o in
     (λ f. leb-true _ _ (e ∙ f), λ h. sym e ∙ le-leb _ _ h))
 
--- And so is one that ended well.
-pub well-forged : (c : Receiver) → c .ended ≡ DONE → (x : Call) → (called c x .number ≡ FORGED) ↔ UnmadeWell c
-well-forged c d =
-    called-unmade c (inr d) _
+well-tested : (c : Receiver) → c .ended ≡ DONE → (forged c ≡ true) ↔ FaultyWell c
+well-tested c d =
+    tested c (inr d) _
     (λ t.
     let e = forged-ended c (perOctet (radioOf (c .mode))) t (λ m. omega (arith, d, m)) in
     (λ f. eqb-false _ _ (not-true _ (e ∙ f)), λ h. sym e ∙ ap not (ne-eqb _ _ h)))
+
+-- one that doesn't fail them passes
+passed : (c : Receiver) (F : Type 0) → (forged c ≡ true) ↔ F → (F → ⊥) → forged c ≡ false
+passed c F t n = by-test (forged c) (λ f. absurd (n (t .0 f))) (λ f. f)
+
+-- ---- what the calls make of every record
+
+module _ (c : Receiver) where
+  -- 34 and nothing else of one that fails the tests
+  forged-idle : forged c ≡ true → Idle c FORGED FORGED 0
+  unfolding told left
+  forged-idle t =
+      record {
+        pushed = λ part. sym (push-forged c part t);
+        finished = sym (finish-forged c t);
+        taken = λ buffer. ap (λ (a : Answer). answered a buffer) (sym (takes-forged c (length buffer) t));
+      }
+
+  answers-forged : (F : Type 0) → (forged c ≡ true) ↔ F → (c .ended ≡ FORGED → ⊥) → (x : Call) → (called c x .number ≡ FORGED) ↔ F
+  answers-forged F t n x = (
+    λ e. by-test (forged c) (t .0) (λ f. absurd (called-passed c f n x e)),
+    λ u. called-forged c (t .1 u) x,
+  )
+
+  -- An open record that fails a test is given back as it was, with 34; and it alone is answered so.
+  module _ (o : c .ended ≡ MORE) where
+    pub open-forged : (x : Call) → (called c x .number ≡ FORGED) ↔ FaultyOpen c
+    open-forged = answers-forged (FaultyOpen c) (open-tested c o) (λ n. omega (arith, o, n))
+
+    pub open-faulty : FaultyOpen c → Idle c FORGED FORGED 0
+    open-faulty u = forged-idle (open-tested c o .1 u)
+
+    -- One that doesn't: finish ends it with 4, all else as it was, and take tells 12 at place 0.
+    pub open-sound : (FaultyOpen c → ⊥) → (finishOf c ≡ step RUNOUT (endedWith RUNOUT c)) × ((buffer : List ℕ) → takeOf c buffer ≡ tells NOTENDED 0 buffer)
+    unfolding told left
+    open-sound n =
+        let f = passed c (FaultyOpen c) (open-tested c o) n in
+        (sym (finish-open c f o), λ buffer. ap (λ (a : Answer). answered a buffer) (sym (takes-open c (length buffer) f o)))
+
+  -- A record that ended well and fails a test likewise.
+  module _ (d : c .ended ≡ DONE) where
+    pub well-forged : (x : Call) → (called c x .number ≡ FORGED) ↔ FaultyWell c
+    well-forged = answers-forged (FaultyWell c) (well-tested c d) (λ n. omega (arith, d, n))
+
+    pub well-faulty : FaultyWell c → Idle c FORGED FORGED 0
+    well-faulty u = forged-idle (well-tested c d .1 u)
+
+    -- One that doesn't: push and finish give it back as it was, with 10.
+    pub well-sound : (FaultyWell c → ⊥) → ((part : List ℕ) → pushOf c part ≡ step ENDED c) × (finishOf c ≡ step ENDED c)
+    well-sound n =
+        let f = passed c (FaultyWell c) (well-tested c d) n in
+        let m : c .ended ≡ MORE → ⊥ = λ e. omega (arith, d, e) in
+        (λ part. sym (push-ended c part f m), sym (finish-ended c f m))
+
+  -- A record that a refusal ended is never tested: push and finish give it back with 10, and take
+  -- repeats its number and place.
+  pub refused-idle : (c .ended ≡ MORE → ⊥) → (c .ended ≡ DONE → ⊥) → Idle c ENDED (c .ended) (c .taken)
+  unfolding told left
+  refused-idle m d =
+      let f = sym (forged-refused c m d) in
+      record {
+        pushed = λ part. sym (push-ended c part f m);
+        finished = sym (finish-ended c f m);
+        taken = λ buffer. ap (λ (a : Answer). answered a buffer) (sym (takes-refused c (length buffer) f m d));
+      }
 
 -- ---- records that calls make
 

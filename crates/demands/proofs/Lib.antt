@@ -1,6 +1,6 @@
 -- The demands, and the laws that they stand on, leaves first. To be read are Demand1, Demand2,
 -- Demand3 and, from it, PutRight, NoFlat, OneAnswer and Reader; of the stepping receiver Stepped,
--- Stray, Forged, Short and Given. Each opens with what it says in plain words.
+-- Stray, Forged, Holds and Given. Each opens with what it says in plain words.
 pub mod Digits
 pub mod Back
 pub mod Octet
@@ -26,5 +26,5 @@ pub mod Given
 pub mod Stray
 pub mod Made
 pub mod Forged
-pub mod Short
+pub mod Holds
 pub mod Stepped

@@ -1,5 +1,5 @@
--- Lists of calls of the stepping receiver, records that no calls make, and records whose report has
--- no room: the words that its theorems are stated with.
+-- Lists of calls of the stepping receiver, the tests of a record in the words of frames, and what
+-- take tells: the words that its theorems are stated with.
 use mathlib.Core.Path.{_≡_}
 use Prim.Native.Nat.{ℕ, _*_, _≤_, _<_}
 use mathlib.Core.Bool.{Bool, false}
@@ -8,8 +8,9 @@ use lib.ListN.{length}
 use Rattle.codes.specs.Numbers.{NOROOM, ENDED, BADPART, NOTENDED}
 use Rattle.codes.specs.Chips.{pick, among}
 use Rattle.codes.specs.Radio.{known, radioOf}
-use Rattle.frame.specs.Outcome.{outcome}
+use Rattle.frame.specs.Outcome.{Outcome, outcome}
 use Rattle.frame.specs.Frame.{symbols}
+use Rattle.reader.specs.declared.Reading.{Reading}
 use Rattle.receiver.specs.declared.Receiver.{Receiver}
 use Rattle.receiver.specs.declared.Step.{Step}
 use Rattle.receiver.specs.Record.{step, isOpen, pushOf, finishOf, takeOf}
@@ -56,27 +57,37 @@ unfoldable pub inOrder : Receiver → List (List ℕ) → List Call
 inOrder c [] = pick (isOpen c) (finishing ∷ []) []
 inOrder c (w ∷ ws) = pick (isOpen c) (pushing w ∷ inOrder (pushOf c w .receiver) ws) []
 
--- A record that no calls make, where `wrong` says what no record of a frame with so many symbols
--- has: its mode has no radio, its length is above 127, its count is above the accepted distance
--- times the symbols taken, or it is wrong for the number of symbols of the frame of a report of
--- that length.
-pub data Unmade (wrong : ℕ → Type 0) (c : Receiver) : Type 0 where
-  no-radio : known (c .mode) ≡ false → Unmade wrong c
-  too-long : 127 < c .length → Unmade wrong c
-  too-many-repaired : radioOf (c .mode) .limit * c .taken < c .count → Unmade wrong c
-  wrong-total : ((report : List ℕ) → length report ≡ c .length → wrong (length (symbols (radioOf (c .mode)) report))) → Unmade wrong c
+-- One of the document's four tests of a record fails: its mode has no radio, its length is above
+-- 127, its count is above the accepted distance times the symbols taken, or the symbols taken don't
+-- fit (`misfit`) the number of symbols of the frame of a report of that length. (That number goes by
+-- the length alone, so what holds of one such report holds of each.)
+pub data Faulty (misfit : ℕ → Type 0) (c : Receiver) : Type 0 where
+  no-radio : known (c .mode) ≡ false → Faulty misfit c
+  too-long : 127 < c .length → Faulty misfit c
+  too-many-repaired : radioOf (c .mode) .limit * c .taken < c .count → Faulty misfit c
+  misfits : ((report : List ℕ) → length report ≡ c .length → misfit (length (symbols (radioOf (c .mode)) report))) → Faulty misfit c
 
--- an open one: the symbols taken are not fewer than those
-abbrev pub UnmadeOpen : Receiver → Type 0
-UnmadeOpen c = Unmade (λ total. total ≤ c .taken) c
+-- of an open record: the symbols taken are not fewer
+abbrev pub FaultyOpen : Receiver → Type 0
+FaultyOpen c = Faulty (λ total. total ≤ c .taken) c
 
--- one that ended well: they are not those
-abbrev pub UnmadeWell : Receiver → Type 0
-UnmadeWell c = Unmade (λ total. c .taken ≡ total → ⊥) c
+-- of one that ended well: they are not as many
+abbrev pub FaultyWell : Receiver → Type 0
+FaultyWell c = Faulty (λ total. c .taken ≡ total → ⊥) c
 
--- The record holds a report for which the buffer is too short: take gives it into any buffer with
--- room, and into this one a 3 at the number of symbols of the report's frame, with nothing stored.
-pub record Short (mode : ℕ) (c : Receiver) (buffer report : List ℕ) (count : ℕ) : Type 0 where
-  pub short : length buffer < length report
-  pub given : (other : List ℕ) → length report ≤ length other → takeOf c other ≡ success mode other report count
-  pub refused : takeOf c buffer ≡ outcome (record { number = NOROOM; place = length (symbols (radioOf mode) report); n = 0; count = 0 }) buffer
+-- what take tells but for a report, with the lent buffer as it was
+abbrev pub tells : ℕ → ℕ → List ℕ → Outcome Reading
+tells x place buffer = outcome (record { number = x; place = place; n = 0; count = 0 }) buffer
+
+-- Every call gives the record back as it was: push and finish with one number, take with one at a
+-- place.
+pub record Idle (c : Receiver) (x y place : ℕ) : Type 0 where
+  pub pushed : (part : List ℕ) → pushOf c part ≡ step x c
+  pub finished : finishOf c ≡ step x c
+  pub taken : (buffer : List ℕ) → takeOf c buffer ≡ tells y place buffer
+
+-- The record holds a report: take gives it into any buffer with room, and into a shorter one a 3 at
+-- the number of symbols of the report's frame, with nothing stored.
+pub record Holds (mode : ℕ) (c : Receiver) (report : List ℕ) (count : ℕ) : Type 0 where
+  pub given : (buffer : List ℕ) → length report ≤ length buffer → takeOf c buffer ≡ success mode buffer report count
+  pub lacking : (buffer : List ℕ) → length buffer < length report → takeOf c buffer ≡ tells NOROOM (length (symbols (radioOf mode) report)) buffer

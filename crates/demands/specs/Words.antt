@@ -3,9 +3,9 @@
 use mathlib.Core.Path.{_≡_}
 use mathlib.Core.Bool.{false}
 use mathlib.Core.List.{List, _++_}
-use Prim.Native.Nat.{ℕ, zero, suc, _+_, _≤_, _<_}
+use Prim.Native.Nat.{ℕ, zero, suc, _+_, _*_, _≤_, _<_}
 use lib.ListN.{length, getD, take, drop}
-use Rattle.codes.specs.Numbers.{DONE}
+use Rattle.codes.specs.Numbers.{DONE, NOROOM, PREAMBLE, BADSTART, RESERVED}
 use Rattle.codes.specs.Chips.{distance, bad}
 use Rattle.codes.specs.Radio.{Radio, radioOf}
 use Rattle.frame.specs.Outcome.{Outcome, outcome}
@@ -40,3 +40,12 @@ abbrev pub success : ℕ → List ℕ → List ℕ → ℕ → Outcome Reading
 success mode buffer report count =
     outcome (record { number = DONE; place = length (symbols (radioOf mode) report); n = length report; count = count })
     (report ++ drop (length report) buffer)
+
+-- A number given back stands where the reading order lets it, in a frame with so many symbols an
+-- octet: 7 in the preamble, 8 on the last symbol of the start octet, 9 and 3 on that of the length
+-- octet.
+pub record Placed (per x place : ℕ) : Type 0 where
+  pub preamble : x ≡ PREAMBLE → place < 4 * per
+  pub start : x ≡ BADSTART → suc place ≡ 5 * per
+  pub reserved : x ≡ RESERVED → suc place ≡ 6 * per
+  pub room : x ≡ NOROOM → suc place ≡ 6 * per
