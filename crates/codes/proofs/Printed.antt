@@ -1,14 +1,18 @@
 -- What the documents print, against the definitions, by computation: the numbers given back, and
 -- the code words as source document 000 has them. With two names exchanged, or words turned left,
--- in definition and code alike, every promise and every distance would be the same. Assumes nothing.
+-- in definition and code alike, every promise and every distance would be the same. Assumes
+-- nothing.
 use mathlib.Core.Path.{_≡_, refl}
 use mathlib.Core.List.{List, [], _∷_, map}
 use Prim.Native.Nat.{ℕ, zero, suc, _/_, _%_, _^_}
-use Rattle.codes.specs.Numbers.{DONE, BADMODE, TOOLONG, NOROOM, RUNOUT, NOCHIP, LOST, PREAMBLE, BADSTART, RESERVED, ENDED, BADPART, NOTENDED, MORE, FORGED}
+use Rattle.codes.specs.Numbers.{DONE, BADMODE, TOOLONG, NOROOM, RUNOUT, NOCHIP, LOST, PREAMBLE, BADSTART, RESERVED}
+use Rattle.codes.specs.Numbers.{ENDED, BADPART, NOTENDED, MORE, FORGED}
 use Rattle.codes.specs.Radio.{bpsk, oqpsk, bpskWords, oqpskWord, oqpskWords, turned, turns, oddInverted, turnedWords}
 
 -- the numbers given back, in the order of document 01's table
-pub numbers-listed : (DONE ∷ BADMODE ∷ TOOLONG ∷ NOROOM ∷ RUNOUT ∷ NOCHIP ∷ LOST ∷ PREAMBLE ∷ BADSTART ∷ RESERVED ∷ ENDED ∷ BADPART ∷ NOTENDED ∷ MORE ∷ FORGED ∷ [])
+pub numbers-listed :
+    (DONE ∷ BADMODE ∷ TOOLONG ∷ NOROOM ∷ RUNOUT ∷ NOCHIP ∷ LOST ∷ PREAMBLE ∷ BADSTART ∷ RESERVED
+    ∷ ENDED ∷ BADPART ∷ NOTENDED ∷ MORE ∷ FORGED ∷ [])
     ≡ (0 ∷ 1 ∷ 2 ∷ 3 ∷ 4 ∷ 5 ∷ 6 ∷ 7 ∷ 8 ∷ 9 ∷ 10 ∷ 11 ∷ 12 ∷ 13 ∷ 34 ∷ [])
 numbers-listed = refl
 

@@ -3,8 +3,7 @@
 use mathlib.Core.Path.{_≡_, refl}
 use mathlib.Core.Bool.{Bool, true, false, not}
 use mathlib.Core.List.{List, [], _∷_, _++_}
-use Prim.Native.Nat.{ℕ, suc, _+_, _*_}
-use native.Mathlib.Omega.{arith}
+use Prim.Native.Nat.{ℕ, suc, _+_, _*_, _<_}
 use lib.ListN.{length}
 use lib.Dec.{eqb, ltb}
 use borrow.Author.Tests.{eqb-true, eqb-false, ltb-true}
@@ -114,17 +113,28 @@ first-of : (a b : Bool) → both a b ≡ true → a ≡ true
 first-of true b e = refl
 first-of false b e = e
 
+-- one number is not another
+clash : {A : Type 0} (x y : ℕ) → eqb x y ≡ false → x ≡ y → A
+clash x y f e = absurd (eqb-false x y f e)
+
+in-preamble : (per s : ℕ) → s < 4 * per → Placed per PREAMBLE s
+in-preamble per s h =
+    record { preamble = λ _. h; start = clash PREAMBLE BADSTART refl; reserved = clash PREAMBLE RESERVED refl; room = clash PREAMBLE NOROOM refl }
+
+ends-start : (per s : ℕ) → suc s ≡ 5 * per → Placed per BADSTART s
+ends-start per s h =
+    record { preamble = clash BADSTART PREAMBLE refl; start = λ _. h; reserved = clash BADSTART RESERVED refl; room = clash BADSTART NOROOM refl }
+
+ends-length : (per x s : ℕ) → eqb x PREAMBLE ≡ false → eqb x BADSTART ≡ false → suc s ≡ 6 * per → Placed per x s
+ends-length per x s p b h = record { preamble = clash x PREAMBLE p; start = clash x BADSTART b; reserved = λ _. h; room = λ _. h }
+
 rules-placed : (per room s raw start n : ℕ) → Placed per (rules per room s raw start n) s
 unfolding rules
 rules-placed per room s raw start n =
-    by-pick P (both (ltb s (4 * per)) (not (eqb raw 0))) _ _
-    (λ t. let h = ltb-true s (4 * per) (first-of _ _ t) in record { preamble = λ _. h; start = λ e. absurd (omega (arith, e)); reserved = λ e. absurd (omega (arith, e)); room = λ e. absurd (omega (arith, e)) })
-    (λ _. by-pick P (both (ends per 4 s) (not (eqb start startOctet))) _ _
-    (λ t. let h = eqb-true (suc s) (5 * per) (first-of _ _ t) in record { preamble = λ e. absurd (omega (arith, e)); start = λ _. h; reserved = λ e. absurd (omega (arith, e)); room = λ e. absurd (omega (arith, e)) })
-    (λ _. by-pick P (both (ends per 5 s) (ltb 127 n)) _ _
-    (λ t. let h = eqb-true (suc s) (6 * per) (first-of _ _ t) in record { preamble = λ e. absurd (omega (arith, e)); start = λ e. absurd (omega (arith, e)); reserved = λ _. h; room = λ _. h })
-    (λ _. by-pick P (both (ends per 5 s) (ltb room n)) _ _
-    (λ t. let h = eqb-true (suc s) (6 * per) (first-of _ _ t) in record { preamble = λ e. absurd (omega (arith, e)); start = λ e. absurd (omega (arith, e)); reserved = λ _. h; room = λ _. h })
+    by-pick P (both (ltb s (4 * per)) (not (eqb raw 0))) _ _ (λ t. in-preamble per s (ltb-true s (4 * per) (first-of _ _ t)))
+    (λ _. by-pick P (both (ends per 4 s) (not (eqb start startOctet))) _ _ (λ t. ends-start per s (eqb-true (suc s) (5 * per) (first-of _ _ t)))
+    (λ _. by-pick P (both (ends per 5 s) (ltb 127 n)) _ _ (λ t. ends-length per RESERVED s refl refl (eqb-true (suc s) (6 * per) (first-of _ _ t)))
+    (λ _. by-pick P (both (ends per 5 s) (ltb room n)) _ _ (λ t. ends-length per NOROOM s refl refl (eqb-true (suc s) (6 * per) (first-of _ _ t)))
     (λ _. by-pick P (ends per (5 + n) s) _ _ (λ _. elsewhere per DONE s refl) (λ _. elsewhere per MORE s refl)))))
   where
     P : ℕ → Type 0

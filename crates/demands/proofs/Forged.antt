@@ -23,8 +23,10 @@ use Rattle.reader.specs.Read.{told, left, answered}
 use Rattle.receiver.specs.declared.Receiver.{Receiver}
 use Rattle.receiver.specs.declared.Step.{Step}
 use Rattle.receiver.specs.Record.{step, startOf, total, forged, tookSymbol, pushOf, endedWith, finishOf, takeOf}
-use Rattle.receiver.proofs.Ways.{number-of-symbols, forged-no-radio, forged-long, forged-count, last-test, forged-open, forged-ended, forged-refused, push-forged, push-ended, finish-forged, finish-ended, finish-open, takes-forged, takes-open, takes-refused}
-use Rattle.demands.specs.Calls.{Call, pushing, finishing, taking, called, after, Faulty, no-radio, too-long, too-many-repaired, misfits, FaultyOpen, FaultyWell, tells, Idle}
+use Rattle.receiver.proofs.Ways.{number-of-symbols, forged-no-radio, forged-long, forged-count, last-test, forged-open, forged-ended, forged-refused}
+use Rattle.receiver.proofs.Ways.{push-forged, push-ended, finish-forged, finish-ended, finish-open, takes-forged, takes-open, takes-refused}
+use Rattle.demands.specs.Calls.{Call, pushing, finishing, taking, called, after, tells, Idle}
+use Rattle.demands.specs.Calls.{Faulty, no-radio, too-long, too-many-repaired, misfits, FaultyOpen, FaultyWell}
 use Rattle.demands.proofs.Given.{among-pass, ofSymbol, push-ways, took-given, finish-ways, takes-ways}
 use Rattle.demands.proofs.Made.{Honest, wanting, complete, ended, not-ending, passes, made}
 
@@ -41,11 +43,14 @@ called-passed : (c : Receiver) → forged c ≡ false → (c .ended ≡ FORGED �
 unfolding called told
 called-passed c f n (pushing part) =
     push-ways c part (λ (s : Step). s .number ≡ FORGED → ⊥) (λ t e. not-both (forged c) t f) (λ e. omega (arith, e)) (λ e. omega (arith, e))
-    (λ f o. eqb-false _ FORGED (not-true _ (among-pass (λ x. not (eqb x FORGED)) ofSymbol refl (tookSymbol c (symbolOf (radioOf (c .mode)) part) .number) (took-given c part f o))))
+    (λ f o.
+    let x = tookSymbol c (symbolOf (radioOf (c .mode)) part) .number in
+    eqb-false x FORGED (not-true _ (among-pass (λ y. not (eqb y FORGED)) ofSymbol refl x (took-given c part f o))))
 called-passed c f n finishing =
     finish-ways c (λ (s : Step). s .number ≡ FORGED → ⊥) (λ t e. not-both (forged c) t f) (λ e. omega (arith, e)) (λ e. omega (arith, e))
 called-passed c f n (taking buffer) =
-    takes-ways c (length buffer) (λ (a : Answer). told a .number ≡ FORGED → ⊥) (λ t e. not-both (forged c) t f) (λ e. omega (arith, e)) (λ e. omega (arith, e)) (λ e. omega (arith, e)) (λ m d. n)
+    takes-ways c (length buffer) (λ (a : Answer). told a .number ≡ FORGED → ⊥) (λ t e. not-both (forged c) t f)
+    (λ e. omega (arith, e)) (λ e. omega (arith, e)) (λ e. omega (arith, e)) (λ m d. n)
 
 -- ---- the tests of a record that is open or ended well, in the words of frames
 
@@ -74,7 +79,9 @@ module _ (c : Receiver) (g : (c .ended ≡ MORE) ⊎ (c .ended ≡ DONE)) (misfi
         by-test (known (c .mode))
         (λ k. by-test (ltb 127 (c .length)) (λ l. sym (forged-long c g k (ltb-true _ _ l)))
         (λ l. by-test (ltb (radioOf (c .mode) .limit * c .taken) (c .count))
-        (λ b. let e : radioOf (c .mode) .limit ≡ limitAt (c .mode) = rw k in sym (forged-count c g k (ltb-false _ _ l) (radioOf (c .mode) .limit) e (ltb-true _ _ b)))
+        (λ b.
+        let e : radioOf (c .mode) .limit ≡ limitAt (c .mode) = rw k in
+        sym (forged-count c g k (ltb-false _ _ l) (radioOf (c .mode) .limit) e (ltb-true _ _ b)))
         (λ b. go k (ltb-false _ _ l) (ltb-false _ _ b) u)))
         (λ k. sym (forged-no-radio c g k))
       where

@@ -62,7 +62,9 @@ starts : (mode : ℕ) → Made mode (startOf mode .receiver)
 unfolding startOf
 starts mode =
     by-test (known mode)
-    (λ k. rw k (record { own = refl; long = refl; honest = wanting k [] (carries-none (radioOf mode) (sound mode)) (open-begun (radioOf mode) (sound mode) 127) }))
+    (λ k.
+    let h = carries-none (radioOf mode) (sound mode) in
+    rw k (record { own = refl; long = refl; honest = wanting k [] h (open-begun (radioOf mode) (sound mode) 127) }))
     (λ k. rw k (record { own = refl; long = refl; honest = ended refl }))
 
 -- a symbol taken

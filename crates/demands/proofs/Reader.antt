@@ -64,7 +64,8 @@ module _ (mode : ℕ) (k : known mode ≡ true) (chips buffer report : List ℕ)
       (n .0, n .1, success-answers mode k (set chips i (getD (frame (radioOf mode) report) i 0)) buffer report (n .0) .1 (n .2))
 
   -- No symbol of its frame is all 0 or all 1.
-  pub reads-no-flat : (s : ℕ) → s < length (symbols (radioOf mode) report) → (c : ℕ) → c ≤ 1 → window (radioOf mode) chips s ≡ replicate (radioOf mode .size) c → ⊥
+  pub reads-no-flat : (s : ℕ) → s < length (symbols (radioOf mode) report) → (c : ℕ) → c ≤ 1
+      → window (radioOf mode) chips s ≡ replicate (radioOf mode .size) c → ⊥
   reads-no-flat = no-flat (radioOf mode) (sound mode) (unflat mode) (length buffer) chips report count answers
 
 -- A reader that gives number 0 has read a report, which had room.
