@@ -1,23 +1,13 @@
-/* An example gateway: a report goes out as chips, the chips are damaged on their way, and the report is read back, whole and
- * symbol by symbol. Then the aerial is pulled in the middle of the frame, and the same calls refuse: a rope that cannot be heard
- * is not a dry one.
+/* An example gateway: a report goes out as chips, the chips are damaged on their way, and the
+ * report is read back, whole and symbol by symbol. Then the aerial is pulled in the middle of the
+ * frame, and the same calls refuse: a rope that cannot be heard is not a dry one. Last comes a
+ * stream of chips with two frames somewhere in it, which are found by trying.
  *   example [MODE]          0 or 1, the default */
 #include <stdio.h>
 #include <stdlib.h>
 #include <string.h>
 
 #include "lernazhup.h"
-
-static const char *const meanings[] = {
-    "done", "no such mode", "report longer than 127", "lent buffer too short", "chips run out", "byte that isn't a chip",
-    "symbol lost", "preamble not zero", "wrong start octet", "reserved bit set", "receiver already ended",
-    "part isn't exactly one symbol long", "receiver not ended yet", "more wanted",
-};
-
-static const char *meaning(uint32_t number)
-{
-    return number < sizeof meanings / sizeof meanings[0] ? meanings[number] : "record that these calls don't make";
-}
 
 /* Wrong chips up to the accepted distance in each symbol, and never the same ones twice running. */
 static unsigned damage(uint8_t *chips, size_t length, size_t size, unsigned limit)
@@ -34,19 +24,21 @@ static unsigned damage(uint8_t *chips, size_t length, size_t size, unsigned limi
     return wrong;
 }
 
-/* The answer in words. Before the call the report buffer was full of blanks: a refusal leaves it so. */
+/* The answer in words. Before the call the report buffer was full of blanks: a refusal leaves it
+ * so. */
 static void tell(const char *how, lernazhup_reading answer, const uint8_t *report)
 {
     size_t kept = 0;
-    printf("  %s: %u, %s", how, (unsigned)answer.number, meaning(answer.number));
+    printf("  %s: %u, %s", how, (unsigned)answer.number, lernazhup_meaning(answer.number));
     if (answer.number == LERNAZHUP_DONE) {
-        printf(": '%.*s', %u symbols, %u chips repaired\n", (int)answer.n, (const char *)report, (unsigned)answer.place,
-               (unsigned)answer.count);
+        printf(": '%.*s', %u symbols, %u chips repaired\n", (int)answer.n, (const char *)report,
+               (unsigned)answer.place, (unsigned)answer.count);
         return;
     }
     while (kept < LERNAZHUP_REPORT_MAX && report[kept] == ' ')
         kept++;
-    printf(", at symbol %u, %s\n", (unsigned)answer.place, kept == LERNAZHUP_REPORT_MAX ? "nothing stored" : "REPORT CHANGED");
+    printf(", at symbol %u, %s\n", (unsigned)answer.place,
+           kept == LERNAZHUP_REPORT_MAX ? "nothing stored" : "REPORT CHANGED");
 }
 
 static void read_whole(uint32_t mode, const uint8_t *chips, size_t length)
@@ -56,32 +48,99 @@ static void read_whole(uint32_t mode, const uint8_t *chips, size_t length)
     tell("whole", lernazhup_read(mode, chips, length, report, sizeof report), report);
 }
 
-/* As a front end would hand them over: a symbol at a call, until the record ends or nothing more comes. */
-static void read_by_symbol(uint32_t mode, const uint8_t *chips, size_t length, size_t size)
+/* As a front end would hand them over: a symbol at a call, until the record ends or nothing more
+ * comes. */
+static void read_by_symbol(uint32_t mode, const uint8_t *chips, size_t length)
 {
     uint8_t report[LERNAZHUP_REPORT_MAX];
-    lernazhup_step step = lernazhup_start(mode);
-    size_t at;
+    lernazhup_receiver receiver;
+    uint32_t number = lernazhup_start_into(&receiver, mode);
+    size_t size = LERNAZHUP_SYMBOL_CHIPS(mode), at;
     memset(report, ' ', sizeof report);
-    for (at = 0; step.number == LERNAZHUP_MORE && length - at >= size; at += size)
-        step = lernazhup_push(step.receiver, chips + at, size);
-    if (step.number == LERNAZHUP_MORE)
-        step = lernazhup_finish(step.receiver);
-    tell("by symbol", lernazhup_take(step.receiver, report, sizeof report), report);
+    for (at = 0; number == LERNAZHUP_MORE && length - at >= size; at += size)
+        number = lernazhup_push_into(&receiver, chips + at, size);
+    if (number == LERNAZHUP_MORE)
+        lernazhup_finish_into(&receiver);
+    tell("by symbol", lernazhup_take(receiver, report, sizeof report), report);
 }
 
-static void read_both_ways(const char *when, uint32_t mode, const uint8_t *chips, size_t length, size_t size)
+static void read_both_ways(const char *when, uint32_t mode, const uint8_t *chips, size_t length)
 {
     printf("%s\n", when);
     read_whole(mode, chips, length);
-    read_by_symbol(mode, chips, length, size);
+    read_by_symbol(mode, chips, length);
 }
 
-/* A mode number in digits; anything else, and what 32 bits don't hold, is a mode that no radio has. */
+/* The frames of a stream, found by trying one chip after the other as a beginning. This stream has
+ * ended: while one goes on, LERNAZHUP_RUNOUT means to wait at this chip for more. */
+static void find_frames(uint32_t mode, const uint8_t *stream, size_t length)
+{
+    uint8_t report[LERNAZHUP_REPORT_MAX];
+    char where[32];
+    size_t at = 0;
+    while (at < length) {
+        lernazhup_reading answer =
+            lernazhup_read(mode, stream + at, length - at, report, sizeof report);
+        if (answer.number == LERNAZHUP_DONE) {
+            snprintf(where, sizeof where, "at chip %u", (unsigned)at);
+            tell(where, answer, report);
+            at += (size_t)answer.place * LERNAZHUP_SYMBOL_CHIPS(mode);
+        } else {
+            at++;
+        }
+    }
+}
+
+/* Chips of noise, the same ones on every machine. */
+static void noise(uint8_t *chips, size_t length)
+{
+    static uint32_t state = 1;
+    size_t at;
+    for (at = 0; at < length; at++) {
+        state = state * 1664525u + 1013904223u;
+        chips[at] = (uint8_t)(state >> 31);
+    }
+}
+
+/* A mode number in digits; anything else, and what 32 bits don't hold, is a mode that no radio has.
+ * */
 static uint32_t mode_of(const char *text)
 {
     unsigned long number = strtoul(text, NULL, 10);
-    return text[0] != 0 && text[strspn(text, "0123456789")] == 0 && number <= UINT32_MAX ? (uint32_t)number : UINT32_MAX;
+    int digits = text[0] != 0 && text[strspn(text, "0123456789")] == 0;
+    return digits && number <= UINT32_MAX ? (uint32_t)number : UINT32_MAX;
+}
+
+/* One report, as sent, damaged, and with the aerial pulled or the front end off in its midst. */
+static void one_frame(uint32_t mode, uint8_t *chips, size_t length)
+{
+    size_t size = LERNAZHUP_SYMBOL_CHIPS(mode), pulled = length / size * 3 / 4;
+    read_both_ways("as sent", mode, chips, length);
+    printf("%u chips wrong, ", damage(chips, length, size, LERNAZHUP_ACCEPTED(mode)));
+    read_both_ways("none past the accepted distance of its symbol", mode, chips, length);
+    memset(chips + pulled * size, 0, length - pulled * size);
+    printf("aerial pulled at symbol %u, ", (unsigned)pulled);
+    read_both_ways("flat chips from there", mode, chips, length);
+    read_both_ways("front end off at that symbol, and no chips at all from there", mode, chips,
+                   pulled * size);
+}
+
+/* Noise, a frame, noise, another frame, noise. */
+static void two_frames(uint32_t mode)
+{
+    static const char *const texts[] = {"rope 12 wet", "rope 7 dry"};
+    static uint8_t stream[2 * LERNAZHUP_CHIPS_MAX];
+    size_t length = 1000, k;
+    noise(stream, sizeof stream);
+    for (k = 0; k < 2; k++) {
+        uint8_t *frame = stream + length;
+        lernazhup_written out = lernazhup_write(mode, (const uint8_t *)texts[k], strlen(texts[k]),
+                                                frame, sizeof stream - length);
+        damage(frame, out.chips, LERNAZHUP_SYMBOL_CHIPS(mode), LERNAZHUP_ACCEPTED(mode));
+        length += out.chips + 500;
+    }
+    printf("a stream of %u chips, two frames in noise\n", (unsigned)length);
+    find_frames(mode, stream, length);
 }
 
 int main(int count, char **arguments)
@@ -89,20 +148,14 @@ int main(int count, char **arguments)
     static const char text[] = "rope 12 wet";
     static uint8_t chips[LERNAZHUP_CHIPS_MAX];
     uint32_t mode = count > 1 ? mode_of(arguments[1]) : 1;
-    size_t size = mode == 0 ? LERNAZHUP_SYMBOL_MODE0 : LERNAZHUP_SYMBOL_MODE1, pulled;
-    lernazhup_written out = lernazhup_write(mode, (const uint8_t *)text, strlen(text), chips, sizeof chips);
+    lernazhup_written out =
+        lernazhup_write(mode, (const uint8_t *)text, strlen(text), chips, sizeof chips);
     if (out.number != LERNAZHUP_DONE) {
-        fprintf(stderr, "%u, %s\n", (unsigned)out.number, meaning(out.number));
+        fprintf(stderr, "%u, %s\n", (unsigned)out.number, lernazhup_meaning(out.number));
         return 1;
     }
     printf("'%s' in mode %u: %u chips\n", text, (unsigned)mode, (unsigned)out.chips);
-    read_both_ways("as sent", mode, chips, out.chips, size);
-    printf("%u chips wrong, ", damage(chips, out.chips, size, mode == 0 ? 6 : 5));
-    read_both_ways("none past the accepted distance of its symbol", mode, chips, out.chips, size);
-    pulled = out.chips / size * 3 / 4;
-    memset(chips + pulled * size, 0, out.chips - pulled * size);
-    printf("aerial pulled at symbol %u, ", (unsigned)pulled);
-    read_both_ways("flat chips from there", mode, chips, out.chips, size);
-    read_both_ways("front end off at that symbol, and no chips at all from there", mode, chips, pulled * size, size);
+    one_frame(mode, chips, out.chips);
+    two_frames(mode);
     return 0;
 }

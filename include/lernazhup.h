@@ -1,25 +1,46 @@
 /* Lernazhup: IEEE 802.15.4 frames of reports, and reports of frames.
  *
- * A report is the PSDU, 0 to 127 octets. Chips are hard chips, a byte each, 0 or 1; the first chip of a buffer is the first
- * chip of the preamble.
+ * A report is the PSDU, 0 to 127 octets. Chips are hard chips, a byte each, 0 or 1.
  *
- *   mode  radio             chips    accepted distance   chips of the frame of   at most
- *                           a symbol of a symbol         a report of n octets
- *   0     868/915 BPSK      15       6                   720 + 120 n             15,960
- *   1     2450 O-QPSK       32       5                   384 + 64 n               8,512
+ *   mode  radio          chips     accepted distance  chips of the frame of  at most
+ *                        a symbol  of a symbol        a report of n octets
+ *   0     868/915 BPSK   15        6                  720 + 120 n            15,960
+ *   1     2450 O-QPSK    32        5                  384 + 64 n              8,512
  *
- * A symbol that is not within the accepted distance of a code word is refused and not guessed: a flat symbol, all 0 or all 1,
- * is never part of a frame. Every call takes every mode number, every buffer and every record, ends, and answers one of the
- * numbers below (take repeats the number that ended a record as it stands). A refusal leaves every lent byte as it was.
+ * Every call takes every mode number, every buffer and every record, ends, and answers one of the
+ * numbers below (take repeats the number that ended a record as it stands). A refusal leaves every
+ * lent byte as it was.
  *
- * Buffers. A pointer and a length are a buffer: so many bytes, all readable, and writable where the pointer isn't const. A
- * null pointer with length 0 is an empty buffer. No other null pointer may be given, and no two buffers of one call may
- * overlap. A length is at most PTRDIFF_MAX, as of every object in C. Nothing is kept of a buffer after the call, nothing
- * is allocated, and there is no state outside the arguments: calls may run at the same time, each on its own buffers.
+ * What is refused for certain: a symbol that is farther from every code word than the accepted
+ * distance. A flat symbol, all 0 or all 1, always is, and never part of a frame.
+ * What isn't: noise that happens to be near a code word is read as that word. Of 100 random symbols
+ * 60.7 are near one in mode 0, which accepts six wrong chips of fifteen, and 0.09 in mode 1. Where
+ * noise takes the place of one symbol of a mode 0 report, another report is read three times in
+ * ten. To find that is for a check in the report itself; the count of chips repaired is a hint.
  *
- * What is said here of answers, records and lent bytes is proved; null pointers, the layout of the structs, the stack (under 4
- * KiB a call) and the lack of allocation are tested. The library is for x86-64. The rules on buffers are checked by nothing:
- * they are yours to keep. */
+ * Who finds the frame: the caller. The first chip of a buffer is taken for the first chip of the
+ * preamble, and no other beginning is looked for. In a stream, try one chip after the other as the
+ * beginning, with room for any report:
+ *   LERNAZHUP_DONE     a frame. Go on behind it, place times LERNAZHUP_SYMBOL_CHIPS(mode) chips
+ *                      further on.
+ *   LERNAZHUP_RUNOUT   what is there may be a frame's first part. Try here again when more chips
+ *                      have come (never the answer with LERNAZHUP_CHIPS_MAX chips from here on);
+ *                      when none will come, go on at the next chip.
+ *   any other refusal  no frame that can be read begins here. Go on at the next chip, and not where
+ *                      the reading ended: the next frame may begin before that.
+ * Chips of a frame that is refused are so tried, too, and a report whose octets spell a frame can
+ * be taken for one: another reason for a check in the report.
+ *
+ * Buffers. A pointer and a length are a buffer: so many bytes, all readable, and writable where the
+ * pointer isn't const. A null pointer with length 0 is an empty buffer. No other null pointer may
+ * be given, and no two buffers of one call may overlap. A length is at most PTRDIFF_MAX, as of
+ * every object in C. Nothing is kept of a buffer after the call, nothing is allocated, and there is
+ * no state outside the arguments: calls may run at the same time, each on its own buffers.
+ *
+ * What is said of the answers, records and lent bytes of lernazhup_write, _read, _start, _push,
+ * _finish and _take is proved; null pointers, the layout of the structs, the stack (under 4 KiB a
+ * call), the lack of allocation and what is written in C are tested. The library is for x86-64. The
+ * rules on buffers are checked by nothing: they are yours to keep. */
 #ifndef LERNAZHUP_H
 #define LERNAZHUP_H
 
@@ -30,30 +51,54 @@
 extern "C" {
 #endif
 
-/* The numbers given back. */
-#define LERNAZHUP_DONE 0u      /* done                                 write, read, push, take */
-#define LERNAZHUP_BADMODE 1u   /* mode is neither 0 nor 1              write, read, start; take repeats it */
-#define LERNAZHUP_TOOLONG 2u   /* report longer than 127               write */
-#define LERNAZHUP_NOROOM 3u    /* lent buffer too short                write, read, take */
-#define LERNAZHUP_RUNOUT 4u    /* chips run out                        read, finish; take repeats it */
-#define LERNAZHUP_NOCHIP 5u    /* byte that isn't a chip               read, push; take repeats it */
-#define LERNAZHUP_LOST 6u      /* symbol lost: no word near enough     read, push; take repeats it */
-#define LERNAZHUP_PREAMBLE 7u  /* preamble not zero                    read, push; take repeats it */
-#define LERNAZHUP_BADSTART 8u  /* wrong start octet                    read, push; take repeats it */
-#define LERNAZHUP_RESERVED 9u  /* reserved bit of the length octet set read, push; take repeats it */
-#define LERNAZHUP_ENDED 10u    /* receiver already ended               push, finish */
-#define LERNAZHUP_BADPART 11u  /* part isn't exactly one symbol long   push */
-#define LERNAZHUP_NOTENDED 12u /* receiver not ended yet               take */
-#define LERNAZHUP_MORE 13u     /* more wanted: no refusal              start, push */
-#define LERNAZHUP_FORGED 34u   /* record that these calls don't make   push, finish, take */
+/* The version of this header. The major number rises where a struct grows or a number, a name or a
+ * rule goes or changes its meaning, so that callers have to do something (CHANGELOG.md says what);
+ * the minor number where something is added; the last where nothing changes that a caller sees. */
+#define LERNAZHUP_VERSION_MAJOR 1
+#define LERNAZHUP_VERSION_MINOR 0
+#define LERNAZHUP_VERSION_PATCH 0
+#define LERNAZHUP_VERSION "1.0.0"
 
-/* Sizes: a report, a symbol and the largest frame of each mode, and the larger of the two. */
+/* The numbers given back. */
+#define LERNAZHUP_DONE 0u      /* done                                write, read, push, take */
+#define LERNAZHUP_BADMODE 1u   /* mode is neither 0 nor 1             write, read, start; take */
+#define LERNAZHUP_TOOLONG 2u   /* report longer than 127              write */
+#define LERNAZHUP_NOROOM 3u    /* lent buffer too short               write, read, take */
+#define LERNAZHUP_RUNOUT 4u    /* chips run out                       read, finish; take */
+#define LERNAZHUP_NOCHIP 5u    /* byte that isn't a chip              read, push; take */
+#define LERNAZHUP_LOST 6u      /* symbol lost                         read, push; take */
+#define LERNAZHUP_PREAMBLE 7u  /* preamble not zero                   read, push; take */
+#define LERNAZHUP_BADSTART 8u  /* wrong start octet                   read, push; take */
+#define LERNAZHUP_RESERVED 9u  /* reserved bit set                    read, push; take */
+#define LERNAZHUP_ENDED 10u    /* receiver already ended              push, finish */
+#define LERNAZHUP_BADPART 11u  /* part isn't exactly one symbol long  push */
+#define LERNAZHUP_NOTENDED 12u /* receiver not ended yet              take */
+#define LERNAZHUP_MORE 13u     /* more wanted (no refusal)            start, push */
+#define LERNAZHUP_FORGED 34u   /* record that these calls don't make  push, finish, take */
+/* "; take": take repeats the number of a record that ended with it. A lost symbol is one that no
+ * code word is near enough to; the reserved bit is the top bit of the length octet. */
+
+/* Sizes: the octets of the longest report; in each mode the chips of a symbol, how many of them may
+ * be wrong, and the chips of the longest frame; the largest of these over all modes. */
 #define LERNAZHUP_REPORT_MAX 127
 #define LERNAZHUP_SYMBOL_MODE0 15
 #define LERNAZHUP_SYMBOL_MODE1 32
+#define LERNAZHUP_SYMBOL_MAX LERNAZHUP_SYMBOL_MODE1
+#define LERNAZHUP_ACCEPTED_MODE0 6
+#define LERNAZHUP_ACCEPTED_MODE1 5
 #define LERNAZHUP_CHIPS_MAX_MODE0 15960
 #define LERNAZHUP_CHIPS_MAX_MODE1 8512
 #define LERNAZHUP_CHIPS_MAX LERNAZHUP_CHIPS_MAX_MODE0
+
+/* By mode number: the chips of a symbol, how many of them may be wrong, and the chips of the frame
+ * of a report of n octets; 0 for a mode that no radio has. Of constants each is a constant, fit for
+ * the size of an array. The mode is looked at more than once. */
+#define LERNAZHUP_BY_MODE(mode, of0, of1) ((mode) == 0 ? (of0) : (mode) == 1 ? (of1) : 0u)
+#define LERNAZHUP_SYMBOL_CHIPS(mode) \
+    LERNAZHUP_BY_MODE(mode, LERNAZHUP_SYMBOL_MODE0, LERNAZHUP_SYMBOL_MODE1)
+#define LERNAZHUP_ACCEPTED(mode) \
+    LERNAZHUP_BY_MODE(mode, LERNAZHUP_ACCEPTED_MODE0, LERNAZHUP_ACCEPTED_MODE1)
+#define LERNAZHUP_FRAME_CHIPS(mode, n) (LERNAZHUP_BY_MODE(mode, 120, 64) * (6u + (n)))
 
 /* What the writer gives back. */
 typedef struct {
@@ -64,19 +109,20 @@ typedef struct {
 /* What the reader and take give back. */
 typedef struct {
     uint32_t number; /* LERNAZHUP_DONE or the refusal */
-    uint32_t place;  /* done: symbols in the frame; refused: the number of the symbol where the first thing was found wrong,
-                        or as the function says */
+    uint32_t place;  /* done: symbols in the frame; refused: the number of the symbol where the
+                        first thing was found wrong, or as the function says */
     uint32_t n;      /* octets of the report; 0 on a refusal */
     uint32_t count;  /* chips repaired, over the whole frame; 0 on a refusal */
 } lernazhup_reading;
 
-/* The stepping receiver's record. It goes into each call and comes back from it; nothing else is kept. Its fields may be
- * looked at. LERNAZHUP_FORGED is for a record that these calls don't make: open or ended well, and with a mode that no radio
- * has, a length above 127, a count above the accepted distance times the symbols taken, or a number of symbols taken that isn't
- * below the frame's total (open) or isn't equal to it (ended well); the total is that for the length held. */
+/* The stepping receiver's record. It goes into each call and comes back from it; nothing else is
+ * kept. Its fields may be looked at. LERNAZHUP_FORGED is for a record that these calls don't make:
+ * open or ended well, and with a mode that no radio has, a length above 127, a count above the
+ * accepted distance times the symbols taken, or a number of symbols taken that isn't below the
+ * frame's total (open) or isn't equal to it (ended well); the total is that for the length held. */
 typedef struct {
     uint32_t mode;   /* as given to start */
-    uint32_t ended;  /* LERNAZHUP_MORE while open, LERNAZHUP_DONE ended well, else the number of the refusal */
+    uint32_t ended;  /* LERNAZHUP_MORE while open, LERNAZHUP_DONE ended well, else the refusal */
     uint32_t taken;  /* symbols taken: the number of the next symbol; where it ended, the place */
     uint32_t length; /* n once the length octet is read, 0 before */
     uint32_t count;  /* chips repaired so far */
@@ -93,41 +139,84 @@ typedef struct {
 
 /* Writes the frame of a report over the first chips of a buffer.
  * Done: the chip count; later bytes keep their values.
- * Refused: LERNAZHUP_BADMODE, LERNAZHUP_TOOLONG and LERNAZHUP_NOROOM, tested in that order; the buffer stays as it was. */
-lernazhup_written lernazhup_write(uint32_t mode, const uint8_t *report, size_t report_len, uint8_t *chips, size_t chips_len);
+ * Refused: LERNAZHUP_BADMODE, LERNAZHUP_TOOLONG and LERNAZHUP_NOROOM, tested in that order; the
+ * buffer stays as it was. */
+lernazhup_written lernazhup_write(uint32_t mode, const uint8_t *report, size_t report_len,
+                                  uint8_t *chips, size_t chips_len);
 
 /* Reads the frame that the chips begin with and stores its report.
- * Done: the first n bytes of the report buffer are the report; later ones keep their values. Chips after the frame are not
- * looked at. With a buffer of LERNAZHUP_REPORT_MAX bytes there is room for every report.
- * Refused: LERNAZHUP_BADMODE with place 0; then at each symbol in turn LERNAZHUP_RUNOUT, LERNAZHUP_NOCHIP, LERNAZHUP_LOST,
- * LERNAZHUP_PREAMBLE, LERNAZHUP_BADSTART, LERNAZHUP_RESERVED and LERNAZHUP_NOROOM, in that order; the first thing found wrong
- * ends the reading, and the report buffer stays as it was. */
-lernazhup_reading lernazhup_read(uint32_t mode, const uint8_t *chips, size_t chips_len, uint8_t *report, size_t report_len);
+ * Done: the first n bytes of the report buffer are the report; later ones keep their values. Chips
+ * after the frame are not looked at. With a buffer of LERNAZHUP_REPORT_MAX bytes there is room for
+ * every report.
+ * Refused: LERNAZHUP_BADMODE with place 0; then at each symbol in turn LERNAZHUP_RUNOUT,
+ * LERNAZHUP_NOCHIP, LERNAZHUP_LOST, LERNAZHUP_PREAMBLE, LERNAZHUP_BADSTART, LERNAZHUP_RESERVED and
+ * LERNAZHUP_NOROOM, in that order; the first thing found wrong ends the reading, and the report
+ * buffer stays as it was. */
+lernazhup_reading lernazhup_read(uint32_t mode, const uint8_t *chips, size_t chips_len,
+                                 uint8_t *report, size_t report_len);
 
-/* A record for a mode, and LERNAZHUP_MORE. A mode that no radio has: a record that has ended with LERNAZHUP_BADMODE, and that
- * number. */
+/* A record for a mode, and LERNAZHUP_MORE. A mode that no radio has: a record that has ended with
+ * LERNAZHUP_BADMODE, and that number. */
 lernazhup_step lernazhup_start(uint32_t mode);
 
-/* Takes one symbol's chips: LERNAZHUP_SYMBOL_MODE0 or LERNAZHUP_SYMBOL_MODE1 bytes.
- * LERNAZHUP_MORE: go on. LERNAZHUP_DONE: the frame is complete, and the record has ended well. LERNAZHUP_NOCHIP to
- * LERNAZHUP_RESERVED: the symbol is refused as the reader refuses it, the record has ended with that number, and its other
- * fields are as they were before the symbol.
- * LERNAZHUP_FORGED, LERNAZHUP_ENDED and LERNAZHUP_BADPART, tested first and in that order, give the record back as it was. */
+/* Takes one symbol's chips, LERNAZHUP_SYMBOL_CHIPS(mode) bytes.
+ * LERNAZHUP_MORE: go on. LERNAZHUP_DONE: the frame is complete, and the record has ended well.
+ * LERNAZHUP_NOCHIP to LERNAZHUP_RESERVED: the symbol is refused as the reader refuses it, the
+ * record has ended with that number, and its other fields are as they were before the symbol.
+ * LERNAZHUP_FORGED, LERNAZHUP_ENDED and LERNAZHUP_BADPART, tested first and in that order, give the
+ * record back as it was. */
 lernazhup_step lernazhup_push(lernazhup_receiver receiver, const uint8_t *part, size_t part_len);
 
-/* No more symbols: an open record ends with LERNAZHUP_RUNOUT, which is also the answer. LERNAZHUP_FORGED and LERNAZHUP_ENDED
- * give the record back as it was. */
+/* No more symbols: an open record ends with LERNAZHUP_RUNOUT, which is also the answer.
+ * LERNAZHUP_FORGED and LERNAZHUP_ENDED give the record back as it was. */
 lernazhup_step lernazhup_finish(lernazhup_receiver receiver);
 
 /* What a record has come to. It can be asked again.
- * Done: what the reader gives back, with the report at the front of the buffer; later bytes keep their values.
- * LERNAZHUP_FORGED and LERNAZHUP_NOTENDED come with place 0; the number of the refusal that ended the record comes with its
- * place; LERNAZHUP_NOROOM comes with the frame's number of symbols as place. The buffer then stays as it was. */
+ * Done: what the reader gives back, with the report at the front of the buffer; later bytes keep
+ * their values.
+ * LERNAZHUP_FORGED and LERNAZHUP_NOTENDED come with place 0; the number of the refusal that ended
+ * the record comes with its place; LERNAZHUP_NOROOM comes with the frame's number of symbols as
+ * place. The buffer then stays as it was. */
 lernazhup_reading lernazhup_take(lernazhup_receiver receiver, uint8_t *report, size_t report_len);
 
-/* The layout that the library was built with: a compiler that lays the structs out otherwise stops here. */
+/* Start, push and finish for a record that stays where it is: each puts the new record in the old
+ * one's place and gives the number back. (`number = lernazhup_push(record, ..).number` in a loop
+ * compiles, and forgets the record that came back: every symbol is then pushed as the first.) */
+static inline uint32_t lernazhup_kept(lernazhup_receiver *receiver, lernazhup_step step)
+{
+    *receiver = step.receiver;
+    return step.number;
+}
+
+static inline uint32_t lernazhup_start_into(lernazhup_receiver *receiver, uint32_t mode)
+{
+    return lernazhup_kept(receiver, lernazhup_start(mode));
+}
+
+static inline uint32_t lernazhup_push_into(lernazhup_receiver *receiver, const uint8_t *part,
+                                           size_t part_len)
+{
+    return lernazhup_kept(receiver, lernazhup_push(*receiver, part, part_len));
+}
+
+static inline uint32_t lernazhup_finish_into(lernazhup_receiver *receiver)
+{
+    return lernazhup_kept(receiver, lernazhup_finish(*receiver));
+}
+
+/* What a number given back means, in the words of the list above; of any other number, that it is
+ * none of them. Never a null pointer. */
+const char *lernazhup_meaning(uint32_t number);
+
+/* The version of the library itself, as LERNAZHUP_VERSION is that of the header: whoever links the
+ * shared library may meet another one at run time. */
+const char *lernazhup_version(void);
+
+/* The layout that the library was built with: a compiler that lays the structs out otherwise stops
+ * here. */
 #define LERNAZHUP_FIXED(name, fact) typedef char lernazhup_fixed_##name[(fact) ? 1 : -1]
-#define LERNAZHUP_AT(type, field, place) LERNAZHUP_FIXED(type##_##field, offsetof(lernazhup_##type, field) == (place))
+#define LERNAZHUP_AT(type, field, place) \
+    LERNAZHUP_FIXED(type##_##field, offsetof(lernazhup_##type, field) == (place))
 LERNAZHUP_FIXED(written, sizeof(lernazhup_written) == 8);
 LERNAZHUP_AT(written, number, 0);
 LERNAZHUP_AT(written, chips, 4);

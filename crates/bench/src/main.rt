@@ -1,14 +1,17 @@
-// The bench program: reads a raw capture from standard input, at most its first 15,960 bytes, tries mode 0 and then mode 1, each with a
-// report buffer of 127 bytes, and prints a line for each: mode, number, place, n, count. The text of both lines is made whole and written
-// once: `lines` promises every byte of it (specs/Lines.antt), and `main` only reads and writes. The proofs go through because `io::decimal`
-// promises a number's digits, `bytes::copy` a copy and the reader its reading, because a number of 32 bits has at most ten digits
-// (`few-digits`), so that 110 bytes are room enough, and because each entry stands behind those before it (proofs/Text.antt).
+// The bench program: reads a raw capture from standard input, at most its first 15,960 bytes, tries
+// mode 0 and then mode 1, each with a report buffer of 127 bytes, and prints a line for each: mode,
+// number, place, n, count. The text of both lines is made whole and written once: `lines` promises
+// every byte of it (specs/Lines.antt), and `main` only reads and writes. The proofs go through
+// because `io::decimal` promises a number's digits, `bytes::copy` a copy and the reader its
+// reading, because a number of 32 bits has at most ten digits (`few-digits`), so that 110 bytes are
+// room enough, and because each entry stands behind those before it (proofs/Text.antt).
 ghost use mathlib.Core.Path.{_≡_};
 ghost use mathlib.Core.List.{_++_};
 ghost use Prim.Native.Nat.{_+_, _≤_};
 ghost use lib.ListN.{length, take};
 ghost use Rattle.io.specs.Counts.{Counts};
 ghost use Rattle.bench.specs.Lines.{most, entry, lineOf, linesOf};
+use libc::STDERR_FILENO;
 use libc::STDIN_FILENO;
 use libc::STDOUT_FILENO;
 
@@ -16,6 +19,14 @@ use libc::STDOUT_FILENO;
 const MOST: usize = 15960;
 
 fn main() {
+    // Who forgets the `<` before a file's name would otherwise be told of an empty capture.
+    if os::arg_count() > 1 {
+        io::write_all(
+            STDERR_FILENO,
+            b"bench takes no arguments: standard input is the capture\n",
+        );
+        return;
+    }
     let mut chips = room();
     let count = io::read_full(STDIN_FILENO, &mut chips);
     if count < MOST && !ended() {

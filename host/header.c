@@ -1,0 +1,109 @@
+/* What the header works out by itself, held against the library: sizes by mode number, the calls
+ * that keep the record, the version. */
+#include <stdio.h>
+#include <string.h>
+
+#include "lernazhup.h"
+
+static int passed, failed;
+
+static void check(const char *what, unsigned long got, unsigned long want)
+{
+    if (got == want) {
+        passed++;
+    } else {
+        failed++;
+        printf("header, %s: %lu and not %lu\n", what, got, want);
+    }
+}
+
+/* Of constants they are constants. */
+static uint8_t chips[LERNAZHUP_FRAME_CHIPS(0, LERNAZHUP_REPORT_MAX)];
+static uint8_t report[LERNAZHUP_REPORT_MAX];
+#if LERNAZHUP_FRAME_CHIPS(1, 0) != 384 || LERNAZHUP_SYMBOL_CHIPS(0) > LERNAZHUP_SYMBOL_MAX
+#error "sizes can't be asked for before compiling"
+#endif
+
+/* The writer wants so many chips, for every report, and not one less. */
+static void frames(uint32_t mode)
+{
+    size_t n;
+    for (n = 0; n <= LERNAZHUP_REPORT_MAX; n++) {
+        size_t room = LERNAZHUP_FRAME_CHIPS(mode, n);
+        check("chips of a frame", lernazhup_write(mode, report, n, chips, room).chips, room);
+        check("with one less", lernazhup_write(mode, report, n, chips, room - 1).number,
+              LERNAZHUP_NOROOM);
+    }
+}
+
+/* The first symbol with so many chips wrong. */
+static uint32_t damaged(uint32_t mode, unsigned many)
+{
+    unsigned k;
+    lernazhup_write(mode, report, 0, chips, sizeof chips);
+    for (k = 0; k < many; k++)
+        chips[k] ^= 1;
+    return lernazhup_read(mode, chips, LERNAZHUP_FRAME_CHIPS(mode, 0), report, 0).number;
+}
+
+static void symbols(uint32_t mode)
+{
+    size_t size = LERNAZHUP_SYMBOL_CHIPS(mode), k;
+    lernazhup_receiver receiver = lernazhup_start(mode).receiver;
+    lernazhup_write(mode, report, 0, chips, sizeof chips);
+    for (k = 0; k <= LERNAZHUP_SYMBOL_MAX + 1; k++)
+        check("chips of a symbol", lernazhup_push(receiver, chips, k).number,
+              k == size ? LERNAZHUP_MORE : LERNAZHUP_BADPART);
+    check("wrong chips accepted", damaged(mode, LERNAZHUP_ACCEPTED(mode)), LERNAZHUP_DONE);
+    check("one more", damaged(mode, LERNAZHUP_ACCEPTED(mode) + 1), LERNAZHUP_LOST);
+}
+
+/* A call that keeps the record against one that gives it back: the same number, the same record up
+ * to its last octet, behind which the struct has a byte of padding. */
+static void same(lernazhup_step step, uint32_t number, const lernazhup_receiver *kept)
+{
+    size_t fields = offsetof(lernazhup_receiver, octets) + sizeof kept->octets;
+    check("number of a call that keeps the record", number, step.number);
+    check("record of a call that keeps it", memcmp(kept, &step.receiver, fields) == 0, 1);
+}
+
+static void kept(uint32_t mode, size_t length)
+{
+    size_t size = LERNAZHUP_SYMBOL_CHIPS(mode), at;
+    lernazhup_receiver receiver;
+    lernazhup_step step = lernazhup_start(mode);
+    same(step, lernazhup_start_into(&receiver, mode), &receiver);
+    for (at = 0; at + size <= length && size > 0; at += size) {
+        step = lernazhup_push(step.receiver, chips + at, size);
+        same(step, lernazhup_push_into(&receiver, chips + at, size), &receiver);
+    }
+    step = lernazhup_finish(step.receiver);
+    same(step, lernazhup_finish_into(&receiver), &receiver);
+}
+
+int main(void)
+{
+    uint32_t mode;
+    char text[32];
+    for (mode = 0; mode < 2; mode++) {
+        frames(mode);
+        symbols(mode);
+        lernazhup_write(mode, report, 5, chips, sizeof chips);
+        kept(mode, LERNAZHUP_FRAME_CHIPS(mode, 5));
+        kept(mode, LERNAZHUP_FRAME_CHIPS(mode, 5) - 1);
+    }
+    for (; mode < 4; mode++) {
+        check("a symbol of a mode that no radio has", LERNAZHUP_SYMBOL_CHIPS(mode), 0);
+        check("wrong chips accepted there", LERNAZHUP_ACCEPTED(mode), 0);
+        check("a frame there", LERNAZHUP_FRAME_CHIPS(mode, 1), 0);
+        kept(mode, 0);
+    }
+    check("the longest frame of mode 0", LERNAZHUP_CHIPS_MAX_MODE0, LERNAZHUP_FRAME_CHIPS(0, 127));
+    check("of mode 1", LERNAZHUP_CHIPS_MAX_MODE1, LERNAZHUP_FRAME_CHIPS(1, 127));
+    snprintf(text, sizeof text, "%d.%d.%d", LERNAZHUP_VERSION_MAJOR, LERNAZHUP_VERSION_MINOR,
+             LERNAZHUP_VERSION_PATCH);
+    check("the version as numbers", strcmp(text, LERNAZHUP_VERSION) == 0, 1);
+    check("the library's version", strcmp(lernazhup_version(), LERNAZHUP_VERSION) == 0, 1);
+    printf("header against library: %d values, %d wrong\n", passed + failed, failed);
+    return failed != 0;
+}
