@@ -16,7 +16,7 @@
 # two `rt` at once would share target/; a file half made is none
 .NOTPARALLEL:
 .DELETE_ON_ERROR:
-.PHONY: run send check test lib shared install install-shared uninstall speed clean help programs outside always
+.PHONY: run send check test lib shared install install-shared uninstall speed clean help programs outside places always
 
 MODE = 1
 REPORT = host/report
@@ -28,12 +28,15 @@ includedir = $(PREFIX)/include
 DESTDIR ?=
 SEED =
 CASES =
-VERSION := $(shell host/version)
-# by the environment, in which a name may have any letter: a blank, a quote
-export MODE REPORT OUT CAPTURE PREFIX libdir includedir DESTDIR SEED CASES VERSION
+override VERSION := $(shell host/version)
+# Names go to the scripts by the environment, and as they were given: a blank, a quote or a dollar is
+# part of a name.
+NAMES = MODE REPORT OUT CAPTURE PREFIX libdir includedir DESTDIR SEED CASES
+$(foreach name,$(NAMES),$(if $(filter command,$(firstword $(origin $(name)))),$(eval override $(name) := $$(value $(name)))))
+export $(NAMES)
 
 CC = host/cc
-CFLAGS = -std=c99 -O2 -Wall -Wextra -pedantic -Werror -Ibuild
+CFLAGS = -std=c99 -O2 -Wall -Wextra -pedantic -Werror
 ARCHIVE = build/liblernazhup.a
 SHARED = build/liblernazhup.so
 SONAME = liblernazhup.so.$(firstword $(subst ., ,$(VERSION)))
@@ -105,7 +108,7 @@ $(ARCHIVE): crates.txt $(PROVED) build/kit build/words.o
 	@host/binutils ar r $@ build/words.o
 
 build/words.o: library/words.c build/lernazhup.h $(TOOLS)
-	@$(CC) $(CFLAGS) -fPIC -c $< -o $@
+	@$(CC) $(CFLAGS) -Ibuild -fPIC -c $< -o $@
 
 shared: $(SHARED) build/lernazhup.h
 	@:
@@ -126,12 +129,16 @@ build/lernazhup.h: include/lernazhup.h
 
 build/lernazhup.pc: host/pkg-config-file include/lernazhup.h
 	@mkdir -p build
-	@host/pkg-config-file "$$VERSION" '$${pcfiledir}' '$${pcfiledir}' '$${pcfiledir}' >$@
+	@host/pkg-config-file $(VERSION) '$${pcfiledir}' '$${pcfiledir}' '$${pcfiledir}' >$@
 
-install: lib
+# a place that is of no use is told before anything is built
+places:
+	@host/install places
+
+install: places lib
 	@host/install static
 
-install-shared: shared
+install-shared: places shared
 	@host/install shared
 
 uninstall:
@@ -144,11 +151,11 @@ help:
 	@sed -n '/^#/!q; s/^# //p' Makefile
 
 build/example build/fields build/header build/stack build/vectors: build/%: host/%.c build/lernazhup.h $(ARCHIVE) $(TOOLS)
-	@$(CC) $(CFLAGS) $< $(ARCHIVE) -o $@
+	@$(CC) $(CFLAGS) -Ibuild $< $(ARCHIVE) -o $@
 
 build/speed: $(addprefix host/,speed.c usual.c best.c copying.c handing.c baseline.h) build/lernazhup.h $(ARCHIVE) $(TOOLS)
-	@$(CC) $(CFLAGS) -DOWN_POPCOUNT -c host/usual.c -o build/usual-own.o
-	@$(CC) $(CFLAGS) $(filter %.c,$^) build/usual-own.o $(ARCHIVE) -o $@
+	@$(CC) $(CFLAGS) -Ibuild -DOWN_POPCOUNT -c host/usual.c -o build/usual-own.o
+	@$(CC) $(CFLAGS) -Ibuild $(filter %.c,$^) build/usual-own.o $(ARCHIVE) -o $@
 
 build/compare: $(COMPARED:%=host/%.c) $(wildcard host/*.h) build/lernazhup.h $(ARCHIVE) $(TOOLS)
-	@flags=$$(host/sanitizers) && $(CC) $(CFLAGS) -g $$flags $(filter %.c,$^) $(ARCHIVE) -o $@
+	@flags=$$(host/sanitizers) && $(CC) $(CFLAGS) -Ibuild -g $$flags $(filter %.c,$^) $(ARCHIVE) -o $@

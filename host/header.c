@@ -51,6 +51,7 @@ static void symbols(uint32_t mode)
     size_t size = LERNAZHUP_SYMBOL_CHIPS(mode), k;
     lernazhup_receiver receiver = lernazhup_start(mode).receiver;
     lernazhup_write(mode, report, 0, chips, sizeof chips);
+    check("no longer than the longest", size <= LERNAZHUP_SYMBOL_MAX, 1);
     for (k = 0; k <= LERNAZHUP_SYMBOL_MAX + 1; k++)
         check("chips of a symbol", lernazhup_push(receiver, chips, k).number,
               k == size ? LERNAZHUP_MORE : LERNAZHUP_BADPART);
@@ -84,7 +85,7 @@ static void kept(uint32_t mode, size_t length)
 int main(void)
 {
     uint32_t mode;
-    char text[32];
+    char text[32] = "";
     for (mode = 0; mode < 2; mode++) {
         frames(mode);
         symbols(mode);
@@ -98,6 +99,9 @@ int main(void)
         check("a frame there", LERNAZHUP_FRAME_CHIPS(mode, 1), 0);
         kept(mode, 0);
     }
+    check("the longest symbol", LERNAZHUP_SYMBOL_MAX, 32);
+    check("the mode an expression", LERNAZHUP_SYMBOL_CHIPS(text[0] ? 1 : 0), 15);
+    check("n an expression", LERNAZHUP_FRAME_CHIPS(1, text[0] ? 1 : 2), 512);
     check("the longest frame of mode 0", LERNAZHUP_CHIPS_MAX_MODE0, LERNAZHUP_FRAME_CHIPS(0, 127));
     check("of mode 1", LERNAZHUP_CHIPS_MAX_MODE1, LERNAZHUP_FRAME_CHIPS(1, 127));
     snprintf(text, sizeof text, "%d.%d.%d", LERNAZHUP_VERSION_MAJOR, LERNAZHUP_VERSION_MINOR,

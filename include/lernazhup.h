@@ -12,7 +12,8 @@
  * lent byte as it was.
  *
  * What is refused for certain: a symbol that is farther from every code word than the accepted
- * distance. A flat symbol, all 0 or all 1, always is, and never part of a frame.
+ * distance. A flat symbol, all 0 or all 1, is always that far from each, so that no frame holds
+ * one.
  * What isn't: noise that happens to be near a code word is read as that word. Of 100 random symbols
  * 60.7 are near one in mode 0, which accepts six wrong chips of fifteen, and 0.09 in mode 1. Where
  * noise takes the place of one symbol of a mode 0 report, another report is read three times in
@@ -22,14 +23,16 @@
  * preamble, and no other beginning is looked for. In a stream, try one chip after the other as the
  * beginning, with room for any report:
  *   LERNAZHUP_DONE     a frame. Go on behind it, place times LERNAZHUP_SYMBOL_CHIPS(mode) chips
- *                      further on.
+ *                      further on; but where the report's own check finds it wrong, at the next
+ *                      chip: a frame that was cut off may have swallowed part of the one after it.
  *   LERNAZHUP_RUNOUT   what is there may be a frame's first part. Try here again when more chips
  *                      have come (never the answer with LERNAZHUP_CHIPS_MAX chips from here on);
  *                      when none will come, go on at the next chip.
  *   any other refusal  no frame that can be read begins here. Go on at the next chip, and not where
  *                      the reading ended: the next frame may begin before that.
- * Chips of a frame that is refused are so tried, too, and a report whose octets spell a frame can
- * be taken for one: another reason for a check in the report.
+ * So the chips of a frame that is refused are tried, too, and a report whose octets spell a frame
+ * can be taken for one: another reason for a check in the report. The stepping receiver keeps no
+ * chips: whoever searches with it keeps them, to try another beginning.
  *
  * Buffers. A pointer and a length are a buffer: so many bytes, all readable, and writable where the
  * pointer isn't const. A null pointer with length 0 is an empty buffer. No other null pointer may
@@ -91,8 +94,8 @@ extern "C" {
 #define LERNAZHUP_CHIPS_MAX LERNAZHUP_CHIPS_MAX_MODE0
 
 /* By mode number: the chips of a symbol, how many of them may be wrong, and the chips of the frame
- * of a report of n octets; 0 for a mode that no radio has. Of constants each is a constant, fit for
- * the size of an array. The mode is looked at more than once. */
+ * of a report of n octets; 0 for a mode that no radio has. Unsigned. Of constants each is a
+ * constant, fit for the size of an array. The mode is looked at more than once. */
 #define LERNAZHUP_BY_MODE(mode, of0, of1) ((mode) == 0 ? (of0) : (mode) == 1 ? (of1) : 0u)
 #define LERNAZHUP_SYMBOL_CHIPS(mode) \
     LERNAZHUP_BY_MODE(mode, LERNAZHUP_SYMBOL_MODE0, LERNAZHUP_SYMBOL_MODE1)
@@ -181,7 +184,9 @@ lernazhup_reading lernazhup_take(lernazhup_receiver receiver, uint8_t *report, s
 
 /* Start, push and finish for a record that stays where it is: each puts the new record in the old
  * one's place and gives the number back. (`number = lernazhup_push(record, ..).number` in a loop
- * compiles, and forgets the record that came back: every symbol is then pushed as the first.) */
+ * compiles, and forgets the record that came back: every symbol is then pushed as the first.) C89
+ * has no inline functions, and so not these. */
+#if defined(__cplusplus) || (defined(__STDC_VERSION__) && __STDC_VERSION__ >= 199901L)
 static inline uint32_t lernazhup_kept(lernazhup_receiver *receiver, lernazhup_step step)
 {
     *receiver = step.receiver;
@@ -203,6 +208,7 @@ static inline uint32_t lernazhup_finish_into(lernazhup_receiver *receiver)
 {
     return lernazhup_kept(receiver, lernazhup_finish(*receiver));
 }
+#endif
 
 /* What a number given back means, in the words of the list above; of any other number, that it is
  * none of them. Never a null pointer. */
