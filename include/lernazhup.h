@@ -40,10 +40,12 @@
  * every object in C. Nothing is kept of a buffer after the call, nothing is allocated, and there is
  * no state outside the arguments: calls may run at the same time, each on its own buffers.
  *
- * What is said of the answers, records and lent bytes of lernazhup_write, _read, _start, _push,
- * _finish and _take is proved; null pointers, the layout of the structs, the stack (under 4 KiB a
- * call), the lack of allocation and what is written in C are tested. The library is for x86-64. The
- * rules on buffers are checked by nothing: they are yours to keep. */
+ * What stands below at lernazhup_write, _read, _start, _push, _finish and _take about answers,
+ * records and lent bytes is proved, and that flat symbols are refused. Null pointers, the layout of
+ * the structs, the stack (under 4 KiB a call), the lack of allocation and what is written in C are
+ * tested. How to search a stream is advice: the example gateway runs it, and no theorem is about
+ * it. The library is for x86-64. The rules on buffers are checked by nothing: they are yours to
+ * keep. */
 #ifndef LERNAZHUP_H
 #define LERNAZHUP_H
 
