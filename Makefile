@@ -12,6 +12,13 @@
 # make speed      times against C, stack and sizes
 # make clean      removes all that was built, and what `rt` keeps of its proofs
 # make help       these lines
+#
+# captures/    raw captures to try              include/     the header
+# crates/      what is proved                   library/     what of the library is C
+# docs/        scope, decisions, promises       example/     a small gateway
+# programs/    send and bench, for users        tests/       the tests from outside
+# comparison/  a second implementation in C, compared with the library; seeded faults
+# measure/     speed against C, stack, sizes    tools/       what builds and installs
 
 # two `rt` at once would share target/; a file half made is none
 .NOTPARALLEL:
@@ -19,7 +26,7 @@
 .PHONY: run send check test lib shared install install-shared uninstall speed clean help programs outside places always
 
 MODE = 1
-REPORT = host/report
+REPORT = example/report
 OUT = build/capture.raw
 CAPTURE =
 PREFIX = /usr/local
@@ -28,41 +35,45 @@ includedir = $(PREFIX)/include
 DESTDIR ?=
 SEED =
 CASES =
-override VERSION := $(shell host/version)
-# Names go to the scripts by the environment, and as they were given: a blank, a quote or a dollar is
-# part of a name.
+override VERSION := $(shell tools/version)
+# Names go to the scripts by the environment, and as they were given: a blank, a quote or a dollar
+# is part of a name.
 NAMES = MODE REPORT OUT CAPTURE PREFIX libdir includedir DESTDIR SEED CASES
 $(foreach name,$(NAMES),$(if $(filter command,$(firstword $(origin $(name)))),$(eval override $(name) := $$(value $(name)))))
 export $(NAMES)
 
-CC = host/cc
+CC = tools/cc
 CFLAGS = -std=c99 -O2 -Wall -Wextra -pedantic -Werror
 ARCHIVE = build/liblernazhup.a
 SHARED = build/liblernazhup.so
 SONAME = liblernazhup.so.$(firstword $(subst ., ,$(VERSION)))
 # the programs; the test has the library proved beside them, so that two crates are proved at a time
 CRATES = send bench
-TOOLS = Makefile host/cc host/sanitizers
+TOOLS = Makefile tools/cc tools/sanitizer-flags
 # what the archive is made of
 PROVED := $(shell find crates/codes crates/frame crates/reader crates/receiver crates/gateway -name '*.rt' -o -name '*.antt')
-COMPARED = compare cases check facts lent records reference usual best copying
+COMPARED = compare compared_calls chip_cases record_cases lent_memory printed_facts reference
+TIMED = usual_read best_read copying_write
+# programs of one file
+SINGLE = build/gateway build/struct_fields build/header_macros build/vectors build/stack
+vpath %.c example tests measure comparison
 
 # some of the captures are there to be refused, which is status 1
 ifeq ($(CAPTURE),)
-run: programs lib build/example
-	@host/run "$$MODE" "$$REPORT" "$$OUT"
-	@host/bench captures/*.raw || [ $$? -eq 1 ]
-	@host/exec build/example
+run: programs lib build/gateway
+	@programs/send "$$MODE" "$$REPORT" "$$OUT"
+	@programs/bench captures/*.raw || [ $$? -eq 1 ]
+	@tools/exec build/gateway
 else
 run: programs
-	@host/bench "$$CAPTURE"
+	@programs/bench "$$CAPTURE"
 endif
 
 send: programs
-	@host/run "$$MODE" "$$REPORT" "$$OUT"
+	@programs/send "$$MODE" "$$REPORT" "$$OUT"
 
 check:
-	@host/kit
+	@tools/kit-warning
 	@$(MAKE) --no-print-directory programs lib CRATES='$(CRATES) gateway'
 	@$(MAKE) --no-print-directory outside
 
@@ -70,26 +81,26 @@ test: check
 	@rt ci
 
 # every test from outside; each prints a line of counts, and fails where something is wrong
-outside: build/fields build/header build/compare build/stack build/example build/vectors build/speed $(SHARED)
-	@host/contracts-test
-	@host/header-test
-	@host/exec build/header
-	@host/install-test
-	@host/shared-test
-	@host/exec build/fields
-	@host/vectors-test
-	@host/send-test
-	@host/bench-test
-	@host/example-test
-	@host/exec build/stack
-	@host/sizes
-	@host/compare-test "$$SEED" "$$CASES"
-	@env -u CC -u SEED -u CASES host/faults-test
+outside: $(SINGLE) build/compare build/speed $(SHARED)
+	@tests/contracts-test
+	@tests/header-test
+	@tools/exec build/header_macros
+	@tests/install-test
+	@tests/shared-test
+	@tools/exec build/struct_fields
+	@tests/vectors-test
+	@tests/send-test
+	@tests/bench-test
+	@tests/example-test
+	@tools/exec build/stack
+	@measure/sizes
+	@comparison/compare-test "$$SEED" "$$CASES"
+	@env -u CC -u SEED -u CASES comparison/faults-test
 
 speed: lib build/speed build/stack
-	@host/exec build/speed
-	@host/exec build/stack
-	@host/sizes
+	@tools/exec build/speed
+	@tools/exec build/stack
+	@measure/sizes
 
 # proves what has changed and links the programs; quiet unless it fails
 programs:
@@ -105,7 +116,7 @@ $(ARCHIVE): crates.txt $(PROVED) build/kit build/words.o
 	@mkdir -p build
 	@rt staticlib gateway >build/lib.log 2>&1 || { tail -n 20 build/lib.log >&2; exit 1; }
 	@cp target/staticlib/libgateway.a $@
-	@host/binutils ar r $@ build/words.o
+	@tools/binutils ar r $@ build/words.o
 
 build/words.o: library/words.c build/lernazhup.h $(TOOLS)
 	@$(CC) $(CFLAGS) -Ibuild -fPIC -c $< -o $@
@@ -127,35 +138,36 @@ build/lernazhup.h: include/lernazhup.h
 	@mkdir -p build
 	@cp $< $@
 
-build/lernazhup.pc: host/pkg-config-file include/lernazhup.h
+build/lernazhup.pc: tools/pkg-config-file include/lernazhup.h
 	@mkdir -p build
-	@host/pkg-config-file $(VERSION) '$${pcfiledir}' '$${pcfiledir}' '$${pcfiledir}' >$@
+	@tools/pkg-config-file $(VERSION) '$${pcfiledir}' '$${pcfiledir}' '$${pcfiledir}' >$@
 
 # a place that is of no use is told before anything is built
 places:
-	@host/install places
+	@tools/install places
 
 install: places lib
-	@host/install static
+	@tools/install static
 
 install-shared: places shared
-	@host/install shared
+	@tools/install shared
 
 uninstall:
-	@host/install remove
+	@tools/install remove
 
 clean:
 	@rm -rf build target
 
 help:
-	@sed -n '/^#/!q; s/^# //p' Makefile
+	@sed -n '/^#/!q; s/^# \{0,1\}//p' Makefile
 
-build/example build/fields build/header build/stack build/vectors: build/%: host/%.c build/lernazhup.h $(ARCHIVE) $(TOOLS)
+$(SINGLE): build/%: %.c build/lernazhup.h $(ARCHIVE) $(TOOLS)
 	@$(CC) $(CFLAGS) -Ibuild $< $(ARCHIVE) -o $@
 
-build/speed: $(addprefix host/,speed.c usual.c best.c copying.c handing.c baseline.h) build/lernazhup.h $(ARCHIVE) $(TOOLS)
-	@$(CC) $(CFLAGS) -Ibuild -DOWN_POPCOUNT -c host/usual.c -o build/usual-own.o
+build/speed: speed.c handing_push.c $(TIMED:%=%.c) measure/baselines.h build/lernazhup.h $(ARCHIVE) $(TOOLS)
+	@$(CC) $(CFLAGS) -Ibuild -DOWN_POPCOUNT -c measure/usual_read.c -o build/usual-own.o
 	@$(CC) $(CFLAGS) -Ibuild $(filter %.c,$^) build/usual-own.o $(ARCHIVE) -o $@
 
-build/compare: $(COMPARED:%=host/%.c) $(wildcard host/*.h) build/lernazhup.h $(ARCHIVE) $(TOOLS)
-	@flags=$$(host/sanitizers) && $(CC) $(CFLAGS) -Ibuild -g $$flags $(filter %.c,$^) $(ARCHIVE) -o $@
+build/compare: $(COMPARED:%=%.c) $(TIMED:%=%.c) $(wildcard comparison/*.h measure/*.h) build/lernazhup.h $(ARCHIVE) $(TOOLS)
+	@flags=$$(tools/sanitizer-flags) && \
+	$(CC) $(CFLAGS) -Ibuild -Imeasure -g $$flags $(filter %.c,$^) $(ARCHIVE) -o $@

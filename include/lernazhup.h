@@ -121,10 +121,15 @@ typedef struct {
 } lernazhup_reading;
 
 /* The stepping receiver's record. It goes into each call and comes back from it; nothing else is
- * kept. Its fields may be looked at. LERNAZHUP_FORGED is for a record that these calls don't make:
- * open or ended well, and with a mode that no radio has, a length above 127, a count above the
- * accepted distance times the symbols taken, or a number of symbols taken that isn't below the
- * frame's total (open) or isn't equal to it (ended well); the total is that for the length held. */
+ * kept. Its fields may be looked at.
+ * LERNAZHUP_FORGED is for a record that these calls don't make. Only a record that is open or has
+ * ended well is tested; it is forged where one of these holds:
+ *   - no radio has its mode;
+ *   - its length is above 127;
+ *   - its count is above the accepted distance times the symbols taken;
+ *   - it is open, and no fewer symbols are taken than its frame has;
+ *   - it has ended well, and not just as many symbols are taken as its frame has.
+ * Its frame is that of a report of the length held. */
 typedef struct {
     uint32_t mode;   /* as given to start */
     uint32_t ended;  /* LERNAZHUP_MORE while open, LERNAZHUP_DONE ended well, else the refusal */

@@ -1,4 +1,5 @@
--- What document 01 says that the bench program prints in two cases ("The bench program"), computed of the definition. Assumes nothing.
+-- What document 01 says that the bench program prints in two cases ("The bench program"), computed
+-- of the definition. Assumes nothing.
 use mathlib.Core.Path.{_≡_, refl}
 use mathlib.Core.List.{[], _∷_}
 use Rattle.codes.specs.Chips.{distance, bad}

@@ -1,4 +1,5 @@
--- The digits that `io::decimal` promises are the number in decimal; an entry put behind the text before it. Assumes nothing.
+-- The digits that `io::decimal` promises are the number in decimal; an entry put behind the text
+-- before it. Assumes nothing.
 use mathlib.Core.Path.{_≡_, ap, _∙_}
 use mathlib.Core.List.{List, [], _∷_, _++_, append-assoc}
 use Prim.Native.Nat.{ℕ, zero, suc, _+_, _-_, _*_, _/_, _%_, _^_, _≤_, _<_}
@@ -38,8 +39,8 @@ few-digits n k b h =
     let few : 11 ≤ k → ⊥ = λ more. omega (arith, h .2 (omega arith), pow-le-pow-right {n = 10} (omega arith) {i = 10} {j = k - 1} (omega arith)) in
     omega (arith, lt-of-not-le few)
 
--- An entry behind the first `at` bytes of t: a copy of its digits ds begins the bytes y that stand there in u, and a store puts the
--- byte after them.
+-- An entry behind the first `at` bytes of t: a copy of its digits ds begins the bytes y that stand
+-- there in u, and a store puts the byte after them.
 pub put-entry : (t u y ds rest post : List ℕ) (at k n after : ℕ) → at ≤ length t → k ≤ 10 → Fewest 10 1 n k → k ≡ length ds → ds ≡ digits 10 k n
     → y ≡ take (length ds) ds ++ rest → u ≡ take at t ++ (y ++ post) → at + k < length u → take (at + k + 1) (set u (at + k) after) ≡ take at t ++ entry n after
 put-entry t u y ds rest post at k n after l few h d e f g j =

@@ -47,8 +47,9 @@ fn room() -> [u8; MOST]
     [0; MOST]
 }
 
-// Whether the input has ended. `io::read_full` gives a short count where it has and also where a read failed; one read more finds
-// nothing only where it has. A capture cut short by a failed read must not be answered.
+// Whether the input has ended. `io::read_full` gives a short count where it has and also where a
+// read failed; one read more finds nothing only where it has. A capture cut short by a failed read
+// must not be answered.
 fn ended() -> bool {
     let mut more = [0u8; 1];
     libc::read(STDIN_FILENO, &mut more) == 0
@@ -79,7 +80,8 @@ fn line(mode: u32, chips: &[u8], text: &mut [u8], at: usize) -> usize
     put(text, four, reading.count, b'\n')
 }
 
-// A number in decimal and the byte after it, behind the first `at` bytes of the text. Gives back where they end.
+// A number in decimal and the byte after it, behind the first `at` bytes of the text. Gives back
+// where they end.
 fn put(text: &mut [u8], at: usize, n: u32, after: u8) -> usize
     requires { ⌜ at + 11 ≤ length (now text) ⌝ }
     ensures { λ r. ⌜ r ≤ at + 11 ⌝ }

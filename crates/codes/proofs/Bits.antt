@@ -1,4 +1,5 @@
--- Mode 0's two words, which differ in all fifteen chips: chips that are d from one are 15 - d from the other. Assumes nothing.
+-- Mode 0's two words, which differ in all fifteen chips: chips that are d from one are 15 - d from
+-- the other. Assumes nothing.
 use mathlib.Core.Path.{_≡_, refl, _∙_}
 use mathlib.Core.Bool.{false}
 use mathlib.Core.List.{List}
@@ -26,7 +27,8 @@ module _ (chips : List ℕ) (at : ℕ) (fits : at + 15 ≤ length chips) (q : ba
       let zero-at = sum-distance bpsk sound-bpsk (omega arith) (omega arith) chips at fits q 0 (omega arith) in
       let one-at = sum-distance bpsk sound-bpsk (omega arith) (omega arith) chips at fits q 1 (omega arith) in
       rw (table-known 0 refl, zero-at, one-at)
-      (distance-both (take 15 (drop at chips)) (word bpsk 0) (word bpsk 1) q (sound-bpsk .chips 0 (omega arith)) (sound-bpsk .chips 1 (omega arith)) long refl (bpsk-words .0)
+      (distance-both (take 15 (drop at chips)) (word bpsk 0) (word bpsk 1) q
+      (sound-bpsk .chips 0 (omega arith)) (sound-bpsk .chips 1 (omega arith)) long refl (bpsk-words .0)
       ∙ long)
 
   -- at the two numbers that `apart` packs

@@ -64,7 +64,8 @@ distance-append (u ∷ us) [] xs ys e = absurd (omega arith)
 distance-append (u ∷ us) (w ∷ ws) xs ys e = omega (arith, distance-append us ws xs ys (omega arith))
 
 -- one place more
-distance-more : (xs ys : List ℕ) (k : ℕ) → k < length xs → k < length ys → distance (take (suc k) xs) (take (suc k) ys) ≡ distance (take k xs) (take k ys) + differ (getD xs k 0) (getD ys k 0)
+distance-more : (xs ys : List ℕ) (k : ℕ) → k < length xs → k < length ys
+    → distance (take (suc k) xs) (take (suc k) ys) ≡ distance (take k xs) (take k ys) + differ (getD xs k 0) (getD ys k 0)
 unfolding distance
 distance-more xs ys k h j =
     rw (take-suc xs k 0, take-suc ys k 0)
@@ -164,7 +165,8 @@ distance-both (x ∷ xs) (y ∷ ys) (z ∷ zs) a b c h j e =
     let l = distance-le ys zs in
     let d = differ-le y z in
     let o = differ-one x y z (chip-at (x ∷ xs) a 0) (chip-at (y ∷ ys) b 0) (chip-at (z ∷ zs) c 0) (omega (arith, e, l, d)) in
-    let r = distance-both xs ys zs (bad-drop 1 (x ∷ xs) a) (bad-drop 1 (y ∷ ys) b) (bad-drop 1 (z ∷ zs) c) (omega (arith, h)) (omega (arith, j)) (omega (arith, e, l, d)) in
+    let r = distance-both xs ys zs (bad-drop 1 (x ∷ xs) a) (bad-drop 1 (y ∷ ys) b)
+    (bad-drop 1 (z ∷ zs) c) (omega (arith, h)) (omega (arith, j)) (omega (arith, e, l, d)) in
     omega (arith, o, r)
 
 -- a turn of the loop that keeps the highest byte so far

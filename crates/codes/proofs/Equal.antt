@@ -1,5 +1,6 @@
--- What the code computes is what `Symbol` says: the nearest word within the limit is the one word within it. Once over the
--- radio; the last laws are at a mode, for `read_symbol` and for whoever lends the table. Assumes nothing.
+-- What the code computes is what `Symbol` says: the nearest word within the limit is the one word
+-- within it. Once over the radio; the last laws are at a mode, for `read_symbol` and for whoever
+-- lends the table. Assumes nothing.
 use mathlib.Core.Path.{_≡_, sym, ap, _∙_}
 use mathlib.Core.Bool.{true, false}
 use mathlib.Core.List.{List}
@@ -40,7 +41,8 @@ module _ (r : Radio) (S : Sound r) (small : r .size < 256) (low : r .limit < 255
     pub sum-distance : (v : ℕ) → v < length (r .words) → sums v ≡ distance window (word r v)
     unfolding tableOf sumTo
     sum-distance v h =
-        xor-cong _ (λ i. getD window i 0) _ (λ i. getD (word r v) i 0) (r .size) (window-chip chips at (r .size)) (λ i l. chip-of (r .size) (r .words) _ (S .sized) v i h l)
+        xor-cong _ (λ i. getD window i 0) _ (λ i. getD (word r v) i 0) (r .size)
+        (window-chip chips at (r .size)) (λ i l. chip-of (r .size) (r .words) _ (S .sized) v i h l)
         ∙ xor-distance window (word r v) (r .size) b (S .chips v h) long (S .sized v h) small
 
     judged-symbol : judged (r .limit) (nearestOf sums (length (r .words))) ≡ symbolOf r window
@@ -50,8 +52,13 @@ module _ (r : Radio) (S : Sound r) (small : r .size < 256) (low : r .limit < 255
         (λ a.
         let l = leb-true (n .distance) (r .limit) a in
         let t = attained sums (length (r .words)) (omega arith) in
-        rw a (sym (symbol-of r window S long (n .value) (n .distance) (record { chip = b; known = t .0; apart = sym (t .1) ∙ sum-distance (n .value) (t .0); near = l }))))
-        (λ a. rw a (sym (lost-of r window (record { chip = b; far = λ v h. omega (arith, leb-false (n .distance) (r .limit) a, least sums (length (r .words)) v h, sum-distance v h) }))))
+        rw a (sym (symbol-of r window S long (n .value) (n .distance)
+        (record { chip = b; known = t .0; apart = sym (t .1) ∙ sum-distance (n .value) (t .0); near = l }))))
+        (λ a. rw a (sym (lost-of r window (record {
+          chip = b;
+          far =
+              λ v h. omega (arith, leb-false (n .distance) (r .limit) a, least sums (length (r .words)) v h, sum-distance v h);
+        }))))
       where
         n : Nearest
         n = nearestOf sums (length (r .words))

@@ -1,5 +1,5 @@
--- Facts of the words that the work stands on, each one test that antt computes over every word or pair of words, and from
--- them that both radios are sound. Assumes nothing.
+-- Facts of the words that the work stands on, each one test that antt computes over every word or
+-- pair of words, and from them that both radios are sound. Assumes nothing.
 use mathlib.Core.Path.{_≡_, refl}
 use mathlib.Core.Bool.{Bool, true, false, not}
 use mathlib.Core.List.{List, [], _∷_}
@@ -31,7 +31,8 @@ each-word r p t = each p (length (r .words)) t
 each-pair : (r : Radio) (p : ℕ → ℕ → Bool) → everyPair r p ≡ true → (u v : ℕ) → u < length (r .words) → v < length (r .words) → (u ≡ v → ⊥) → p u v ≡ true
 unfolding everyPair
 each-pair r p t u v hu hv n =
-    rw (ne-eqb u v n) at (each (λ v. pick (eqb u v) true (p u v)) (length (r .words)) (each (λ u. every (λ v. pick (eqb u v) true (p u v)) (length (r .words))) (length (r .words)) t u hu) v hv)
+    rw (ne-eqb u v n) at (each (λ v. pick (eqb u v) true (p u v)) (length (r .words))
+    (each (λ u. every (λ v. pick (eqb u v) true (p u v)) (length (r .words))) (length (r .words)) t u hu) v hv)
 
 -- any two mode 1 words differ in 12, 14, 16, 18 or 20 chips
 pub oqpsk-pairs : (u v : ℕ) → u < 16 → v < 16 → (u ≡ v → ⊥) → among (distance (word oqpsk u) (word oqpsk v)) (12 ∷ 14 ∷ 16 ∷ 18 ∷ 20 ∷ []) ≡ true
@@ -50,7 +51,8 @@ bpsk-words = (refl, refl, refl)
 
 -- a flat symbol, all 0 or all 1, is farther than the limit from every word
 flatTest : Radio → Bool
-flatTest r = everyWord r (λ v. pick (ltb (r .limit) (distance (replicate (r .size) 0) (word r v))) (ltb (r .limit) (distance (replicate (r .size) 1) (word r v))) false)
+flatTest r = everyWord r (λ v. pick (ltb (r .limit) (distance (replicate (r .size) 0) (word r v)))
+    (ltb (r .limit) (distance (replicate (r .size) 1) (word r v))) false)
 
 unflat-by : (r : Radio) → flatTest r ≡ true → Unflat r
 unfolding flatTest
@@ -73,7 +75,8 @@ chipsTest r = everyWord r (λ v. not (bad (word r v)))
 apartTest : Radio → Bool
 apartTest r = everyPair r (λ u v. ltb (2 * r .limit) (distance (word r u) (word r v)))
 
-sound-by : (r : Radio) → sizedTest r ≡ true → chipsTest r ≡ true → apartTest r ≡ true → length (r .words) ≡ 2 ^ r .bits → (r .chained ≡ true → r .bits ≡ 1) → 8 / r .bits * r .bits ≡ 8 → Sound r
+sound-by : (r : Radio) → sizedTest r ≡ true → chipsTest r ≡ true → apartTest r ≡ true
+    → length (r .words) ≡ 2 ^ r .bits → (r .chained ≡ true → r .bits ≡ 1) → 8 / r .bits * r .bits ≡ 8 → Sound r
 unfolding sizedTest chipsTest apartTest
 sound-by r s c a m b o =
     record {
@@ -81,7 +84,11 @@ sound-by r s c a m b o =
       chips = λ v h. not-true _ (each-word r (λ v. not (bad (word r v))) c v h);
       many = m;
       apart = λ u v hu hv l. by-test (eqb u v) (λ e. eqb-true _ _ e)
-          (λ e. absurd (omega (arith, ltb-true (2 * r .limit) (distance (word r u) (word r v)) (each-pair r (λ u v. ltb (2 * r .limit) (distance (word r u) (word r v))) a u v hu hv (eqb-false _ _ e)))));
+          (λ e. absurd (omega (
+            arith,
+            ltb-true (2 * r .limit) (distance (word r u) (word r v))
+                (each-pair r (λ u v. ltb (2 * r .limit) (distance (word r u) (word r v))) a u v hu hv (eqb-false _ _ e)),
+          )));
       single = b;
       divides = o;
     }

@@ -16,7 +16,8 @@ module _ (p : ℕ → Bool) where
   first-true i zero h = absurd (omega arith)
   first-true i (suc k) h = go (p i) refl (first-true (suc i) k) h
     where
-      go : (b : Bool) → p i ≡ b → (first p (suc i) k < suc i + k → p (first p (suc i) k) ≡ true) → pick b i (first p (suc i) k) < i + suc k → p (pick b i (first p (suc i) k)) ≡ true
+      go : (b : Bool) → p i ≡ b → (first p (suc i) k < suc i + k → p (first p (suc i) k) ≡ true)
+          → pick b i (first p (suc i) k) < i + suc k → p (pick b i (first p (suc i) k)) ≡ true
       go true e r h = e
       go false e r h = r (omega arith)
 

@@ -42,6 +42,8 @@ module _ (d : ℕ → ℕ) where
     where
       go : (b : Bool) → (nearestOf d k .distance < 255 → (nearestOf d k .value < k) × (d (nearestOf d k .value) ≡ nearestOf d k .distance))
           → pick b (record { value = k; distance = d k }) (nearestOf d k) .distance < 255
-          → (pick b (record { value = k; distance = d k }) (nearestOf d k) .value < suc k) × (d (pick b (record { value = k; distance = d k }) (nearestOf d k) .value) ≡ pick b (record { value = k; distance = d k }) (nearestOf d k) .distance)
+          → (pick b (record { value = k; distance = d k }) (nearestOf d k) .value < suc k)
+          × (d (pick b (record { value = k; distance = d k }) (nearestOf d k) .value)
+          ≡ pick b (record { value = k; distance = d k }) (nearestOf d k) .distance)
       go true r h = (omega arith, refl)
       go false r h = (omega (arith, r h), r h .1)

@@ -1,4 +1,5 @@
--- What is true of each radio is true of a mode's, and what tests of a mode number leave. Assumes nothing.
+-- What is true of each radio is true of a mode's, and what tests of a mode number leave. Assumes
+-- nothing.
 use mathlib.Core.Path.{_≡_, sym, _∙_}
 use mathlib.Core.Bool.{true, false}
 use Prim.Native.Nat.{ℕ, zero, suc}
@@ -25,7 +26,8 @@ second mode k n = omega (arith, ltb-true mode 2 k)
 pub size-known : (mode : ℕ) → known mode ≡ true → sizeAt mode ≡ radioOf mode .size
 size-known mode k = rw k
 
--- a number that each radio has, and that is 0 where there is no radio: where it isn't 0 there is one, and it is that radio's
+-- a number that each radio has, and that is 0 where there is no radio: where it isn't 0 there is
+-- one, and it is that radio's
 pub numbered : (f : Radio → ℕ) (mode x : ℕ) → x ≡ pick (known mode) (f (radioOf mode)) 0 → (x ≡ 0 → ⊥) → (known mode ≡ true) × (x ≡ f (radioOf mode))
 numbered f mode x e n = by-test (known mode) (λ a. (a, e ∙ rw a)) (λ a. absurd (n (e ∙ rw a)))
 

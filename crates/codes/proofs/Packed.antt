@@ -1,5 +1,5 @@
--- Laws of bytes taken as the digits of one number: how eight are packed, the test of eight at once for one that is no chip, and
--- the sum of fifteen that are 0 or 1. Assumes nothing.
+-- Laws of bytes taken as the digits of one number: how eight are packed, the test of eight at once
+-- for one that is no chip, and the sum of fifteen that are 0 or 1. Assumes nothing.
 use mathlib.Core.Path.{_≡_, refl, sym, _∙_}
 use mathlib.Core.Bool.{Bool, true, false, not, _||_}
 use mathlib.Core.List.{List}
@@ -132,7 +132,8 @@ module _ (chips : List ℕ) (at : ℕ) (r : Bool) (e : r ≡ bad (take 8 (drop a
   pub either-bad : (s : Bool) → s ≡ bad (take 8 (drop (at + 7) chips)) → (r || s) ≡ bad (take 15 (drop at chips))
   either-bad s d = by-test r (λ t. rw t (sym t ∙ first-bad t)) (λ t. rw t (first-good t s d))
 
--- the fourth digit of the product with four ones is the sum of four digits: the lower ones carry nothing into it
+-- the fourth digit of the product with four ones is the sum of four digits: the lower ones carry
+-- nothing into it
 four-sum : (a b c d : ℕ) → a ≤ 4 → b ≤ 4 → c ≤ 4 → d ≤ 4
     → (d * 2 ^ 24 + c * 2 ^ 16 + b * 2 ^ 8 + a) * (2 ^ 24 + 2 ^ 16 + 2 ^ 8 + 1) / 2 ^ 24 % 2 ^ 8 ≡ a + b + c + d
 four-sum a b c d p q r s =
@@ -152,7 +153,8 @@ unfoldable total : (ℕ → ℕ) → ℕ → ℕ
 total h zero = 0
 total h (suc k) = total h k + h k
 
--- fifteen digits in one number: two overlapping eights, of which the second loses the digit that both have, added
+-- fifteen digits in one number: two overlapping eights, of which the second loses the digit that
+-- both have, added
 abbrev fifteen : (ℕ → ℕ) → ℕ
 fifteen h = packed h 8 + packed (λ i. h (7 + i)) 8 / 256
 
@@ -175,9 +177,11 @@ module _ (h : ℕ → ℕ) (b : (i : ℕ) → h i ≤ 1) where
       let upper = h 7 * 2 ^ 24 + (h 6 + h 14) * 2 ^ 16 + (h 5 + h 13) * 2 ^ 8 + (h 4 + h 12) in
       let e : fifteen h ≡ upper * 2 ^ 32 + lower = rw seven (omega arith) in
       let l : lower < 2 ^ 32 = omega (arith, b 0, b 1, b 2, b 3, b 8, b 9, b 10, b 11) in
-      let f : lower + upper ≡ (h 3 + h 7 + h 11) * 2 ^ 24 + (h 2 + h 6 + h 10 + h 14) * 2 ^ 16 + (h 1 + h 5 + h 9 + h 13) * 2 ^ 8 + (h 0 + h 4 + h 8 + h 12) = omega arith in
+      let f : lower + upper ≡ (h 3 + h 7 + h 11) * 2 ^ 24 + (h 2 + h 6 + h 10 + h 14) * 2 ^ 16
+      + (h 1 + h 5 + h 9 + h 13) * 2 ^ 8 + (h 0 + h 4 + h 8 + h 12) = omega arith in
       rw (e, halves lower upper l, f)
-      (four-sum (h 0 + h 4 + h 8 + h 12) (h 1 + h 5 + h 9 + h 13) (h 2 + h 6 + h 10 + h 14) (h 3 + h 7 + h 11) (omega (arith, b 0, b 4, b 8, b 12)) (omega (arith, b 1, b 5, b 9, b 13)) (omega (arith, b 2, b 6, b 10, b 14)) (omega (arith, b 3, b 7, b 11))
+      (four-sum (h 0 + h 4 + h 8 + h 12) (h 1 + h 5 + h 9 + h 13) (h 2 + h 6 + h 10 + h 14) (h 3 + h 7 + h 11)
+      (omega (arith, b 0, b 4, b 8, b 12)) (omega (arith, b 1, b 5, b 9, b 13)) (omega (arith, b 2, b 6, b 10, b 14)) (omega (arith, b 3, b 7, b 11))
       ∙ omega arith)
 
 -- the exclusive ors of two windows

@@ -1,6 +1,6 @@
--- The turning and inverting rule of the mode 1 words as a test of each of 512 numbers. The proof of `table` computes it over the
--- constant array; `ruled-table` makes of it that the array is the definition's words, and `rule-chip` carries it to each
--- chip. Assumes nothing.
+-- The turning and inverting rule of the mode 1 words as a test of each of 512 numbers. The proof of
+-- `table` computes it over the constant array; `ruled-table` makes of it that the array is the
+-- definition's words, and `rule-chip` carries it to each chip. Assumes nothing.
 use mathlib.Core.Path.{_≡_, refl, sym, _∙_}
 use mathlib.Core.Bool.{Bool, true}
 use Prim.Native.Nat.{ℕ, _+_, _-_, _*_, _/_, _%_, _<_}

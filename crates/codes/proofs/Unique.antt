@@ -1,5 +1,6 @@
--- Reading a symbol within a distance, once for every word length, number of words and limit: at most one word lies within the
--- limit where any two are more than twice the limit apart (triangle inequality), and the answer is that word. Assumes nothing.
+-- Reading a symbol within a distance, once for every word length, number of words and limit: at
+-- most one word lies within the limit where any two are more than twice the limit apart (triangle
+-- inequality), and the answer is that word. Assumes nothing.
 use mathlib.Core.Path.{_≡_, refl, sym, ap, _∙_}
 use mathlib.Core.Bool.{Bool, true, false}
 use mathlib.Core.List.{List}

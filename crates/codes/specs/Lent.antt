@@ -1,5 +1,5 @@
--- What is given to whoever reads or writes many symbols: the size of a symbol, the accepted distance, and the words in
--- one table to lend.
+-- What is given to whoever reads or writes many symbols: the size of a symbol, the accepted
+-- distance, and the words in one table to lend.
 use Prim.Native.Nat.{ℕ, _-_}
 use mathlib.Core.List.{List, [], _∷_, _++_}
 use lib.ListN.{length, replicate}

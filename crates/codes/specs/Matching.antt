@@ -1,5 +1,6 @@
--- Not to be believed: what the code computes, shown equal to `Symbol` in proofs/Equal.antt where the lent table is the radio's.
--- Windows are functions and sums recurse at their end, as the loops run.
+-- Not to be believed: what the code computes, shown equal to `Symbol` in proofs/Equal.antt where
+-- the lent table is the radio's. Windows are functions and sums recurse at their end, as the loops
+-- run.
 use Prim.Native.Nat.{ℕ, zero, suc, _+_, _*_, _%_, _^_}
 use mathlib.Core.List.{List}
 use lib.ListN.{length, getD, take, drop}
@@ -26,7 +27,8 @@ xorSum f g (suc k) = (xorSum f g k + bitXor (f k) (g k)) % 2 ^ 8
 unfoldable pub sumTo : List ℕ → List ℕ → ℕ → ℕ → ℕ → ℕ
 sumTo table chips at size v = xorSum (from chips at) (from table (v * size)) size
 
--- the nearest of k words at the distances d, the lowest number on a tie; 0 at 255 where there is none nearer than 255
+-- the nearest of k words at the distances d, the lowest number on a tie; 0 at 255 where there is
+-- none nearer than 255
 unfoldable pub nearestOf : (ℕ → ℕ) → ℕ → Nearest
 nearestOf d zero = record { value = 0; distance = 255 }
 nearestOf d (suc k) = pick (ltb (d k) (nearestOf d k .distance)) (record { value = k; distance = d k }) (nearestOf d k)

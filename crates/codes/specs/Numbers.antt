@@ -1,4 +1,5 @@
--- The numbers given back, in the order of document 01's table. `src/lib.rt` has constants of the same names.
+-- The numbers given back, in the order of document 01's table. `src/lib.rt` has constants of the
+-- same names.
 use Prim.Native.Nat.{ℕ}
 
 -- done

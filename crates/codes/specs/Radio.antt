@@ -1,5 +1,5 @@
--- The two radios (document 01, "The two radios"), each a row of one list. Everything below `radioOf` takes the radio, so a
--- third radio is a third row.
+-- The two radios (document 01, "The two radios"), each a row of one list. Everything below
+-- `radioOf` takes the radio, so a third radio is a third row.
 use mathlib.Core.Path.{_≡_}
 use Prim.Native.Nat.{ℕ, zero, suc, _-_, _*_, _/_, _^_, _≤_, _<_}
 use mathlib.Core.Bool.{Bool, true, false}
@@ -8,7 +8,8 @@ use lib.ListN.{length, getD, take, drop, replicate}
 use lib.Dec.{ltb}
 use Rattle.codes.specs.Chips.{distance, bad}
 
--- chips per symbol, bits per symbol, accepted distance, whether each bit is added to the one encoded before it, code words
+-- chips per symbol, bits per symbol, accepted distance, whether each bit is added to the one
+-- encoded before it, code words
 pub record Radio : Type 0 where
   pub size : ℕ
   pub bits : ℕ
@@ -16,7 +17,8 @@ pub record Radio : Type 0 where
   pub chained : Bool
   pub words : List (List ℕ)
 
--- Mode 0. The word for bit 0 is 111101011001000 and for bit 1 is 000010100110111, c0 at the left and first.
+-- Mode 0. The word for bit 0 is 111101011001000 and for bit 1 is 000010100110111, c0 at the left
+-- and first.
 unfoldable pub bpskWords : List (List ℕ)
 bpskWords =
     (1 ∷ 1 ∷ 1 ∷ 1 ∷ 0 ∷ 1 ∷ 0 ∷ 1 ∷ 1 ∷ 0 ∷ 0 ∷ 1 ∷ 0 ∷ 0 ∷ 0 ∷ [])
@@ -45,8 +47,8 @@ oddInverted [] = []
 oddInverted (x ∷ []) = x ∷ []
 oddInverted (x ∷ y ∷ w) = x ∷ (1 - y) ∷ oddInverted w
 
--- Symbols 1 to 7 are each the one before, turned right by k chips. Symbols 8 to 15 are symbols 0 to 7 with each chip of odd
--- index inverted.
+-- Symbols 1 to 7 are each the one before, turned right by k chips. Symbols 8 to 15 are symbols 0 to
+-- 7 with each chip of odd index inverted.
 unfoldable pub turnedWords : ℕ → List ℕ → List (List ℕ)
 turnedWords k w = turns 8 k w ++ map oddInverted (turns 8 k w)
 
@@ -69,7 +71,8 @@ radios = bpsk ∷ oqpsk ∷ []
 abbrev pub known : ℕ → Bool
 known mode = ltb mode (length radios)
 
--- the radio of a mode that has one. (Row 0 for any other, so that it is total: a promise tests `known` first.)
+-- the radio of a mode that has one. (Row 0 for any other, so that it is total: a promise tests
+-- `known` first.)
 abbrev pub radioOf : ℕ → Radio
 radioOf mode = getD radios mode bpsk
 
@@ -77,9 +80,10 @@ radioOf mode = getD radios mode bpsk
 abbrev pub word : Radio → ℕ → List ℕ
 word r v = getD (r .words) v []
 
--- A radio is sound where its words have the length that it says and are of chips, there are 2 ^ bits of them, any two are
--- more than twice the limit apart, only single bits are chained, and an octet is a whole number of symbols. Laws about the
--- definitions ask just this; those about the code ask besides that its numbers fit the code's.
+-- A radio is sound where its words have the length that it says and are of chips, there are 2 ^
+-- bits of them, any two are more than twice the limit apart, only single bits are chained, and an
+-- octet is a whole number of symbols. Laws about the definitions ask just this; those about the
+-- code ask besides that its numbers fit the code's.
 pub record Sound (r : Radio) : Type 0 where
   pub sized : (v : ℕ) → v < length (r .words) → length (word r v) ≡ r .size
   pub chips : (v : ℕ) → v < length (r .words) → bad (word r v) ≡ false

@@ -32,11 +32,13 @@ valued r chips v =
     pick (ltb v (length (r .words))) (reads v (distance chips (word r v))) (refused LOST)
 
 -- 2. A byte above 1 among the symbol's chips: 5.
--- 3. No code word within the accepted distance: 6. Otherwise the symbol's value is that of the one word within it.
+-- 3. No code word within the accepted distance: 6. Otherwise the symbol's value is that of the one
+--    word within it.
 unfoldable pub symbolOf : Radio → List ℕ → Symbol
 symbolOf r chips = pick (bad chips) (refused NOCHIP) (valued r chips (first (within r chips) 0 (length (r .words))))
 
--- the symbol of a mode's radio that begins at a place of a chip buffer. A mode that has no radio: 1. Then
+-- the symbol of a mode's radio that begins at a place of a chip buffer; for a mode that has no radio
+-- 1, mode is neither 0 nor 1. Then
 -- 1. Fewer chips left than one symbol: 4.
 unfoldable pub symbolAt : ℕ → List ℕ → ℕ → Symbol
 symbolAt mode chips at =

@@ -1,7 +1,8 @@
-// The fifteen chips of a mode 0 symbol as two overlapping eights, chips 0 to 7 and 7 to 14. Eight bytes are one number of 64
-// bits, which the back end loads at once; a sum over fifteen bytes it does not turn into vector sums well. The bytes are the
-// number's digits to the base 256. Exclusive or and mask work on each digit apart, and digits that are 0 or 1 carry nothing
-// when the eights are added and when their digits are summed (proofs/Packed.antt).
+// The fifteen chips of a mode 0 symbol as two overlapping eights, chips 0 to 7 and 7 to 14. Eight
+// bytes are one number of 64 bits, which the back end loads at once; a sum over fifteen bytes it
+// does not turn into vector sums well. The bytes are the number's digits to the base 256. Exclusive
+// or and mask work on each digit apart, and digits that are 0 or 1 carry nothing when the eights
+// are added and when their digits are summed (proofs/Packed.antt).
 ghost use mathlib.Core.Path.{_≡_};
 ghost use mathlib.Core.Bool.{false};
 ghost use Prim.Native.Nat.{_+_, _*_, _≤_, _<_};
@@ -11,10 +12,11 @@ ghost use Rattle.codes.specs.Lent.{tableAt};
 ghost use Rattle.codes.specs.Matching.{from, sumTo};
 ghost use Rattle.codes.specs.Packed.{packed, digitSum};
 
-// The distance of fifteen chips from the word of a bit, as a sum of exclusive ors. The first word stands here as two numbers and is
-// not read from the table: a table just made lies in memory in pieces of other sizes, and a load that spans them is slow. The division
-// takes chip 7 out of the second eight, since the first has it. The two words differ in all fifteen chips, so the distance from
-// the second is what is left of fifteen.
+// The distance of fifteen chips from the word of a bit, as a sum of exclusive ors. The first word
+// stands here as two numbers and is not read from the table: a table just made lies in memory in
+// pieces of other sizes, and a load that spans them is slow. The division takes chip 7 out of the
+// second eight, since the first has it. The two words differ in all fifteen chips, so the distance
+// from the second is what is left of fifteen.
 pub fn apart(bit: u32, chips: &[u8], at: usize) -> u8
     requires { ⌜ (bit < 2) × (at + 15 ≤ length (now chips)) × (bad (take 15 (drop at (now chips))) ≡ false) ⌝ }
     ensures { λ r. ⌜ r ≡ sumTo (tableAt 0) (now (chips .entry)) at 15 bit ⌝ }
@@ -41,8 +43,8 @@ fn bad_eight(chips: &[u8], at: usize) -> bool
     eight(chips, at) & 0xFEFEFEFEFEFEFEFE != 0
 }
 
-// Eight bytes as the digits of one number, the first the lowest. The loop has a constant length, and the back end makes one
-// load of it.
+// Eight bytes as the digits of one number, the first the lowest. The loop has a constant length,
+// and the back end makes one load of it.
 fn eight(bytes: &[u8], at: usize) -> u64
     requires { ⌜ at + 8 ≤ length (now bytes) ⌝ }
     ensures { λ r. ⌜ r ≡ packed (from (now (bytes .entry)) at) 8 ⌝ }
@@ -63,8 +65,8 @@ fn wide(byte: u8) -> u64
     byte as u64
 }
 
-// The sum of eight digits, where it is below 256. The halves are added first, so that the product fits: its fourth digit is
-// the sum of four.
+// The sum of eight digits, where it is below 256. The halves are added first, so that the product
+// fits: its fourth digit is the sum of four.
 fn digit_sum(z: u64) -> u8
     ensures { λ r. ⌜ r ≡ digitSum z ⌝ }
 {

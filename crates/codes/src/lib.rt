@@ -1,7 +1,8 @@
-// The radios' code words and the reading of one symbol within a distance. One loop over words serves every radio; how far a word
-// is, is a sum over its chips, which for fifteen of them has a form of its own (fifteen.rt). That at most one word lies within the
-// limit is a law over word length, number of words and limit (proofs/Unique.antt), so the nearest word, where it is within the
-// limit, is that one (proofs/Equal.antt). Each radio only instantiates it.
+// The radios' code words and the reading of one symbol within a distance. One loop over words
+// serves every radio; how far a word is, is a sum over its chips, which for fifteen of them has a
+// form of its own (fifteen.rt). That at most one word lies within the limit is a law over word
+// length, number of words and limit (proofs/Unique.antt), so the nearest word, where it is within
+// the limit, is that one (proofs/Equal.antt). Each radio only instantiates it.
 ghost use mathlib.Core.Path.{_≡_};
 ghost use mathlib.Core.Bool.{false};
 ghost use Prim.Native.Nat.{_+_, _*_, _≤_, _<_};
@@ -48,7 +49,8 @@ pub const MORE: u32 = 13;
 
 pub const FORGED: u32 = 34;
 
-// What one symbol's chips say: `number` 0 with the word's value and its distance, or a refusal with zeros.
+// What one symbol's chips say: `number` 0 with the word's value and its distance, or a refusal with
+// zeros.
 pub struct Symbol {
     pub number: u32,
     pub value: u32,
@@ -101,8 +103,8 @@ pub fn read_symbol(mode: u32, chips: &[u8], at: usize) -> Symbol
     refusal(BADMODE)
 }
 
-// The same by a lent table of the mode's words, for whoever reads many symbols: mode 1's takes long to make. Mode 0's two words
-// are at hand, and its table is not looked at.
+// The same by a lent table of the mode's words, for whoever reads many symbols: mode 1's takes long
+// to make. Mode 0's two words are at hand, and its table is not looked at.
 pub fn matched(mode: u32, words: &[u8; 512], chips: &[u8], at: usize) -> Symbol
     ensures { λ r. ⌜ r ≡ matchedAt mode (now (words .entry)) (now (chips .entry)) at ⌝ }
 {
@@ -115,8 +117,8 @@ pub fn matched(mode: u32, words: &[u8; 512], chips: &[u8], at: usize) -> Symbol
     refusal(BADMODE)
 }
 
-// A symbol of mode 0. The table is lent for the contract's sake: words of fifteen chips are not read from it (fifteen.rt), so nothing of
-// it is left in the machine code.
+// A symbol of mode 0. The table is lent for the contract's sake: words of fifteen chips are not
+// read from it (fifteen.rt), so nothing of it is left in the machine code.
 fn read_bit(chips: &[u8], at: usize) -> Symbol
     ensures { λ r. ⌜ r ≡ matchIn 15 2 6 (tableAt 0) (now (chips .entry)) at ⌝ }
 {
@@ -124,8 +126,8 @@ fn read_bit(chips: &[u8], at: usize) -> Symbol
     match_in(15, 2, 6, &words, chips, at)
 }
 
-// Matching for any word length, number of words and limit: 4, 5 and 6 in that order. Called with constants, so that the loops
-// have constant lengths. Words of fifteen chips are mode 0's two.
+// Matching for any word length, number of words and limit: 4, 5 and 6 in that order. Called with
+// constants, so that the loops have constant lengths. Words of fifteen chips are mode 0's two.
 fn match_in(
     size: usize,
     count: u32,
@@ -148,7 +150,8 @@ fn match_in(
 
 // Looks at every word: nothing leaves the loop.
 fn nearest_word(size: usize, count: u32, words: &[u8; 512], chips: &[u8], at: usize) -> Nearest
-    requires { ⌜ (count * size ≤ 512) × (size ≤ 512) × (count ≤ 512) × (at + size ≤ length (now chips)) × (size ≡ 15 → (count ≡ 2) × (now words ≡ tableAt 0)) × (bad (take size (drop at (now chips))) ≡ false) ⌝ }
+    requires { ⌜ (count * size ≤ 512) × (size ≤ 512) × (count ≤ 512) × (at + size ≤ length (now chips))
+        × (size ≡ 15 → (count ≡ 2) × (now words ≡ tableAt 0)) × (bad (take size (drop at (now chips))) ≡ false) ⌝ }
     ensures { λ r. ⌜ r ≡ nearestOf (sumTo (now (words .entry)) (now (chips .entry)) at size) count ⌝ }
 {
     let mut best = Nearest {
@@ -171,10 +174,12 @@ fn nearest_word(size: usize, count: u32, words: &[u8; 512], chips: &[u8], at: us
     best
 }
 
-// The sum of exclusive ors of word v, whose row is lent, and the chips from a place on: the distance, where both are of chips. A sum of a
-// byte's width is what the back end turns into vector sums, but poorly over fifteen bytes.
+// The sum of exclusive ors of word v, whose row is lent, and the chips from a place on: the
+// distance, where both are of chips. A sum of a byte's width is what the back end turns into vector
+// sums, but poorly over fifteen bytes.
 fn apart(size: usize, v: u32, words: &[u8; 512], row: usize, chips: &[u8], at: usize) -> u8
-    requires { ⌜ (row ≡ v * size) × (row + size ≤ 512) × (at + size ≤ length (now chips)) × (size ≡ 15 → (v < 2) × (now words ≡ tableAt 0)) × (bad (take size (drop at (now chips))) ≡ false) ⌝ }
+    requires { ⌜ (row ≡ v * size) × (row + size ≤ 512) × (at + size ≤ length (now chips))
+        × (size ≡ 15 → (v < 2) × (now words ≡ tableAt 0)) × (bad (take size (drop at (now chips))) ≡ false) ⌝ }
     ensures { λ r. ⌜ r ≡ sumTo (now (words .entry)) (now (chips .entry)) at size v ⌝ }
 {
     if size == 15 {

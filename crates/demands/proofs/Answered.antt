@@ -1,5 +1,5 @@
--- Windows that begin with the symbols of a report's frame: where the report has room, their reading answers it. For any sound radio.
--- Assumes nothing.
+-- Windows that begin with the symbols of a report's frame: where the report has room, their reading
+-- answers it. For any sound radio. Assumes nothing.
 use mathlib.Core.Path.{_≡_, sym, ap, _∙_}
 use mathlib.Core.List.{List, []}
 use Prim.Native.Nat.{ℕ, suc, _-_, _≤_, _<_}
@@ -22,7 +22,8 @@ use Rattle.reader.proofs.Windows.{seen}
 use Rattle.demands.proofs.Framed.{report-in, framed-more, framed-done}
 use Rattle.demands.proofs.Stands.{Stands, values-long, values-at, values-take}
 
-module _ (r : Radio) (S : Sound r) (room : ℕ) (ws : List (List ℕ)) (report : List ℕ) (P : Report report) (fits : length report ≤ room) (count : ℕ) (T : Stands r ws (symbols r report) count) where
+module _ (r : Radio) (S : Sound r) (room : ℕ) (ws : List (List ℕ)) (report : List ℕ) (P : Report report)
+    (fits : length report ≤ room) (count : ℕ) (T : Stands r ws (symbols r report) count) where
   abbrev vs : List ℕ
   vs = symbols r report
 

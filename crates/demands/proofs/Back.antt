@@ -1,4 +1,5 @@
--- Raw symbols and the symbols sent for them: each gives the other back, for any sound radio. Assumes nothing.
+-- Raw symbols and the symbols sent for them: each gives the other back, for any sound radio.
+-- Assumes nothing.
 use mathlib.Core.Path.{_≡_, refl, ap}
 use mathlib.Core.List.{List, [], _∷_}
 use Prim.Native.Nat.{ℕ, zero, suc, _^_, _<_}

@@ -1,5 +1,5 @@
--- Chips whose windows begin with the symbols of a report's frame are those that begin with its frame, but for the limit in each
--- symbol. For any sound radio. Assumes nothing.
+-- Chips whose windows begin with the symbols of a report's frame are those that begin with its
+-- frame, but for the limit in each symbol. For any sound radio. Assumes nothing.
 use mathlib.Core.Path.{_≡_, refl, sym, ap, _∙_}
 use mathlib.Core.List.{List, [], _∷_}
 use Prim.Native.Nat.{ℕ, zero, suc, _+_, _*_, _≤_, _<_}
@@ -34,8 +34,15 @@ module _ (r : Radio) (chips : List ℕ) where
   repaired-sum ys zero h p = refl
   repaired-sum ys (suc k) h p =
       let x = getD (seen r ws) k (symbolOf r []) in
-      let e : repaired (take (suc k) (seen r ws)) ≡ repaired (take k (seen r ws)) + repaired (x ∷ []) = ap repaired (take-suc (seen r ws) k (symbolOf r []) (omega (arith, seen-long r ws))) ∙ repaired-append (take k (seen r ws)) (x ∷ []) in
-      omega (arith, e, repaired-sum ys k (omega arith) (λ j l. p j (omega arith)), p k (omega arith), ap (λ (y : Symbol). y .distance) (seen-at r ws k (symbolOf r []) h))
+      let e : repaired (take (suc k) (seen r ws)) ≡ repaired (take k (seen r ws)) + repaired (x ∷ []) =
+      ap repaired (take-suc (seen r ws) k (symbolOf r []) (omega (arith, seen-long r ws))) ∙ repaired-append (take k (seen r ws)) (x ∷ []) in
+      omega (
+        arith,
+        e,
+        repaired-sum ys k (omega arith) (λ j l. p j (omega arith)),
+        p k (omega arith),
+        ap (λ (y : Symbol). y .distance) (seen-at r ws k (symbolOf r []) h),
+      )
 
 module _ (r : Radio) (S : Sound r) (chips report : List ℕ) (count : ℕ) where
   abbrev vs : List ℕ
@@ -62,7 +69,8 @@ module _ (r : Radio) (S : Sound r) (chips report : List ℕ) (count : ℕ) where
           chip = rw (frame-size r S report) (front-chips r chips (length vs) (λ s h. read-at s h .chip));
           near = λ s h. rw (frame-window r S report s h) (read-at s h .near);
           sum = T .total
-              ∙ repaired-sum r chips (frame r report) (length vs) (T .enough) (λ j h. rw (whole-at r chips j (omega (arith, T .enough)), frame-window r S report j h) (ap (λ (x : Symbol). x .distance) (at-window j h)))
+              ∙ repaired-sum r chips (frame r report) (length vs) (T .enough)
+              (λ j h. rw (whole-at r chips j (omega (arith, T .enough)), frame-window r S report j h) (ap (λ (x : Symbol). x .distance) (at-window j h)))
               ∙ sym (sum-of-windows r S chips report (omega (arith, frame-size r S report, whole-fits (T .enough))));
         }
 
@@ -89,5 +97,6 @@ module _ (r : Radio) (S : Sound r) (chips report : List ℕ) (count : ℕ) where
           stands = λ j h. rw (whole-at r chips j (omega arith)) (near-read j h);
           total = N .sum
               ∙ sum-of-windows r S chips report (N .long)
-              ∙ sym (repaired-sum r chips (frame r report) (length vs) l (λ j h. rw (whole-at r chips j (omega arith), frame-window r S report j h) (ap (λ (x : Symbol). x .distance) (near-read j h))));
+              ∙ sym (repaired-sum r chips (frame r report) (length vs) l
+              (λ j h. rw (whole-at r chips j (omega arith), frame-window r S report j h) (ap (λ (x : Symbol). x .distance) (near-read j h))));
         }

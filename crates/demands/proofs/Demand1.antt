@@ -1,6 +1,6 @@
--- Demand 1. What a refusal leaves: the reader's n and count are 0, the writer's chip count is 0, and the lent buffer is unchanged. The
--- numbers that each gives back are those of the document's table, and a mode that has no radio gives number 1 at place 0.
--- Assumes nothing.
+-- Demand 1. What a refusal leaves: the reader's n and count are 0, the writer's chip count is 0,
+-- and the lent buffer is unchanged. The numbers that each gives back are those of the document's
+-- table, and a mode that has no radio gives number 1 at place 0. Assumes nothing.
 use mathlib.Core.Path.{_≡_, refl}
 use mathlib.Core.Bool.{true, false}
 use mathlib.Core.List.{List, [], _∷_}

@@ -1,5 +1,6 @@
--- Demand 2. With room, the frame of a report of at most 127 octets, followed by anything, reads back as that report with count 0, for
--- every sound radio. And in a mode that has a radio: what the writer wrote, the reader reads. Assumes nothing.
+-- Demand 2. With room, the frame of a report of at most 127 octets, followed by anything, reads
+-- back as that report with count 0, for every sound radio. And in a mode that has a radio: what the
+-- writer wrote, the reader reads. Assumes nothing.
 use mathlib.Core.Path.{_≡_, sym, ap, _∙_}
 use mathlib.Core.Bool.{true}
 use mathlib.Core.List.{List, _++_}

@@ -2,7 +2,20 @@
 use mathlib.Core.Path.{_≡_, refl, ap, _∙_}
 use mathlib.Core.List.{List, [], _∷_}
 use Prim.Native.Nat.{ℕ, zero, suc, _+_, _*_, _/_, _%_, _^_, _<_}
-use native.Mathlib.Nat.{pow-zero, pow-suc, mod-add-div, div-lt-iff-lt-mul, add-mul-mod-self-left, mod-eq-of-lt, add-mul-div-left, div-eq-of-lt, zero-mod, zero-div, mul-comm, mul-zero}
+use native.Mathlib.Nat.{
+  pow-zero,
+  pow-suc,
+  mod-add-div,
+  div-lt-iff-lt-mul,
+  add-mul-mod-self-left,
+  mod-eq-of-lt,
+  add-mul-div-left,
+  div-eq-of-lt,
+  zero-mod,
+  zero-div,
+  mul-comm,
+  mul-zero,
+}
 use native.Mathlib.Omega.{arith}
 use lib.Arith.{digits-lt}
 use lib.ListN.{length}

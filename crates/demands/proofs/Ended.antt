@@ -1,5 +1,5 @@
--- A reading that is done: the windows begin with the symbols of a report's frame, it is that report that is answered, and it has
--- room. For any sound radio. Assumes nothing.
+-- A reading that is done: the windows begin with the symbols of a report's frame, it is that report
+-- that is answered, and it has room. For any sound radio. Assumes nothing.
 use mathlib.Core.Path.{_≡_, refl, sym, ap, _∙_}
 use mathlib.Core.Logic.{_⊎_, inl, inr, ⊎-elim}
 use mathlib.Core.List.{List, []}
@@ -49,7 +49,8 @@ module _ (r : Radio) (S : Sound r) (room : ℕ) (ws : List (List ℕ)) where
         let w = getD ws j [] in
         let z = R .good j (omega arith) (omega arith) in
         rw (values-at r ws (suc k) j (R .inside) h)
-        (of-symbol r w (symbolOf r w .value) (symbolOf r w .distance) (λ i. record { number = z i; value = symbolOf r w .value; distance = symbolOf r w .distance }))
+        (of-symbol r w (symbolOf r w .value) (symbolOf r w .distance)
+        (λ i. record { number = z i; value = symbolOf r w .value; distance = symbolOf r w .distance }))
 
     vs-below : Below (2 ^ r .bits) vs
     vs-below = at-below (2 ^ r .bits) vs (λ j h. rw (← S .many) (read-at j (omega (arith, long)) .known))

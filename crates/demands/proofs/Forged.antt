@@ -1,7 +1,7 @@
--- Which records are answered 34: of those that are open or ended well just the ones that fail one of
--- the document's four tests, in the words of frames; and none that start gave, carried on by push
--- and finish alone (take never changes it). And what finish and take make of every record, and push
--- of one that takes no symbol. Assumes nothing.
+-- Which records are answered 34: of those that are open or ended well just the ones that fail one
+-- of the document's four tests, in the words of frames; and none that start gave, carried on by
+-- push and finish alone (take never changes it). And what finish and take make of every record, and
+-- push of one that takes no symbol. Assumes nothing.
 use mathlib.Core.Path.{_≡_, refl, sym, ap, _∙_}
 use mathlib.Core.Bool.{true, false, not}
 use mathlib.Core.List.{List}

@@ -1,5 +1,5 @@
--- Raw symbols at which nothing is wrong, as many as the length octet says, are those of a report's frame: of the report in them.
--- For any sound radio. Assumes nothing.
+-- Raw symbols at which nothing is wrong, as many as the length octet says, are those of a report's
+-- frame: of the report in them. For any sound radio. Assumes nothing.
 use mathlib.Core.Path.{_≡_, sym, _∙_}
 use mathlib.Core.List.{List}
 use Prim.Native.Nat.{ℕ, suc, _+_, _-_, _*_, _^_, _≤_, _<_}
@@ -44,7 +44,12 @@ module _ (r : Radio) (S : Sound r) (room : ℕ) (bs : List ℕ) (p : Below (2 ^ 
       each i l =
           let w : i < perOctet r = omega (arith, l, length-take (perOctet r) (drop (k * perOctet r) bs)) in
           let u : k * perOctet r + i < 4 * perOctet r = omega (arith, row-in k 4 (perOctet r) h) in
-          omega (arith, getD-take (perOctet r) (drop (k * perOctet r) bs) i 0 w, getD-drop (k * perOctet r) bs i 0, clear (k * perOctet r + i) (omega (arith, enough)) .preamble u)
+          omega (
+            arith,
+            getD-take (perOctet r) (drop (k * perOctet r) bs) i 0 w,
+            getD-drop (k * perOctet r) bs i 0,
+            clear (k * perOctet r + i) (omega (arith, enough)) .preamble u,
+          )
 
   start-octet : octetAt r 4 bs ≡ startOctet
   start-octet = go (last-of 4 (omega arith))
@@ -68,7 +73,15 @@ module _ (r : Radio) (S : Sound r) (room : ℕ) (bs : List ℕ) (p : Below (2 ^ 
   unfolding octetsFrom
   frame-octets =
       let e : 6 + n ≡ suc (suc (suc (suc (suc (suc n))))) = omega arith in
-      rw (e, preamble-octet 0 (omega arith), preamble-octet 1 (omega arith), preamble-octet 2 (omega arith), preamble-octet 3 (omega arith), start-octet, report-long)
+      rw (
+        e,
+        preamble-octet 0 (omega arith),
+        preamble-octet 1 (omega arith),
+        preamble-octet 2 (omega arith),
+        preamble-octet 3 (omega arith),
+        start-octet,
+        report-long,
+      )
 
   -- it has room
   pub found-room : length (reportIn r bs) ≤ room

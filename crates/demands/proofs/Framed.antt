@@ -1,5 +1,5 @@
--- The raw symbols of a report's frame, at each of them what the rules say, and the report that is in them. For any sound radio.
--- Assumes nothing.
+-- The raw symbols of a report's frame, at each of them what the rules say, and the report that is
+-- in them. For any sound radio. Assumes nothing.
 use mathlib.Core.Path.{_≡_, refl, sym, ap, _∙_}
 use mathlib.Core.List.{List, [], _∷_, _++_}
 use Prim.Native.Nat.{ℕ, suc, _+_, _*_, _^_, _≤_, _<_}
@@ -62,7 +62,8 @@ module _ (r : Radio) (S : Sound r) (report : List ℕ) (R : Report report) where
   -- the preamble is 0
   preamble-in : (s : ℕ) → s < 4 * perOctet r → getD all s 0 ≡ 0
   preamble-in s h =
-      let e : take (4 * perOctet r) all ≡ raws r (0 ∷ 0 ∷ 0 ∷ 0 ∷ []) = before r (0 ∷ 0 ∷ 0 ∷ 0 ∷ []) (startOctet ∷ length report ∷ report) (4 * perOctet r) refl in
+      let e : take (4 * perOctet r) all ≡ raws r (0 ∷ 0 ∷ 0 ∷ 0 ∷ []) =
+      before r (0 ∷ 0 ∷ 0 ∷ 0 ∷ []) (startOctet ∷ length report ∷ report) (4 * perOctet r) refl in
       let g : getD all s 0 ≡ getD (raws r (0 ∷ 0 ∷ 0 ∷ 0 ∷ [])) s 0 = sym (getD-take (4 * perOctet r) all s 0 h) ∙ ap (λ (xs : List ℕ). getD xs s 0) e in
       omega (arith, g, below-at 1 (raws r (0 ∷ 0 ∷ 0 ∷ 0 ∷ [])) (nought r) s (omega (arith, raws-long r (0 ∷ 0 ∷ 0 ∷ 0 ∷ []))))
 

@@ -1,5 +1,6 @@
--- The windows of a frame: window s is the word of its symbol s, and a frame is of chips 0 and 1. Nearness to a frame depends on no
--- chip after it, and the distance of a whole prefix from it is the sum over the windows. For any sound radio. Assumes nothing.
+-- The windows of a frame: window s is the word of its symbol s, and a frame is of chips 0 and 1.
+-- Nearness to a frame depends on no chip after it, and the distance of a whole prefix from it is
+-- the sum over the windows. For any sound radio. Assumes nothing.
 use mathlib.Core.Path.{_≡_, refl, sym, ap, _∙_}
 use mathlib.Core.Bool.{false}
 use mathlib.Core.List.{List, [], _∷_}
@@ -43,7 +44,8 @@ module _ (r : Radio) (S : Sound r) where
     unfolding frame
     frame-good = chips-good (symbols r report) (symbols-below r S report)
 
--- Chips near a report's frame are so by the chips of that frame alone: others that begin with the same are as near.
+-- Chips near a report's frame are so by the chips of that frame alone: others that begin with the
+-- same are as near.
 pub near-same : (r : Radio) → Sound r → (chips others report : List ℕ) (count : ℕ) → length (frame r report) ≤ length others
     → take (length (frame r report)) chips ≡ take (length (frame r report)) others → Near r chips report count → Near r others report count
 near-same r S chips others report count h e n =
@@ -54,7 +56,8 @@ near-same r S chips others report count h e n =
       sum = rw (← e) (n .sum);
     }
 
--- The distance of a whole prefix from a frame is the sum of the distances of the windows of its symbols.
+-- The distance of a whole prefix from a frame is the sum of the distances of the windows of its
+-- symbols.
 pub sum-of-windows : (r : Radio) → Sound r → (chips report : List ℕ) → length (frame r report) ≤ length chips
     → distance (take (length (frame r report)) chips) (frame r report) ≡ differences r chips (frame r report) (length (symbols r report))
 sum-of-windows r S chips report h =

@@ -1,5 +1,5 @@
--- The front of a buffer and its windows: what is said of the one by the others, for any radio; and the windows of a row of words, for a
--- sound one. Assumes nothing.
+-- The front of a buffer and its windows: what is said of the one by the others, for any radio; and
+-- the windows of a row of words, for a sound one. Assumes nothing.
 use mathlib.Core.Path.{_≡_, refl, sym, ap, _∙_}
 use mathlib.Core.Bool.{true, false}
 use mathlib.Core.Logic.{⊎-elim}
@@ -41,7 +41,8 @@ module _ (r : Radio) (chips : List ℕ) where
   pub window-chips : (k : ℕ) → bad (take (k * r .size) chips) ≡ false → (s : ℕ) → s < k → bad (window r chips s) ≡ false
   window-chips zero b s h = absurd (omega arith)
   window-chips (suc k) b s h =
-      let e : pick (bad (take (k * r .size) chips)) true (bad (window r chips k)) ≡ false = sym (ap bad (front-next k) ∙ bad-append (take (k * r .size) chips) (window r chips k)) ∙ b in
+      let e : pick (bad (take (k * r .size) chips)) true (bad (window r chips k)) ≡ false =
+      sym (ap bad (front-next k) ∙ bad-append (take (k * r .size) chips) (window r chips k)) ∙ b in
       by-test (bad (take (k * r .size) chips))
       (λ t. not-both true refl (rw t at e))
       (λ t. ⊎-elim (λ (w : s ≡ k). rw w (rw t at e)) (λ (w : s < k). window-chips k t s w) (eq-or-lt-of-le (upto s k h)))

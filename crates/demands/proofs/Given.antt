@@ -1,5 +1,5 @@
--- The numbers that the stepping receiver's calls give back: those that document 01's table has for each. And what a refusal leaves.
--- Assumes nothing.
+-- The numbers that the stepping receiver's calls give back: those that document 01's table has for
+-- each. And what a refusal leaves. Assumes nothing.
 use mathlib.Core.Path.{_≡_, refl, ap, _∙_}
 use mathlib.Core.Bool.{Bool, true, false, not}
 use mathlib.Core.List.{List, [], _∷_}
@@ -92,13 +92,15 @@ unfolding followed
 followed-given mode k h w =
     let x = symbolOf (radioOf mode) w in
     rw k
-    (by-pick (λ (g : Hand). among (g .number) ofSymbol ≡ true) (eqb (x .number) DONE) (advanced (radioOf mode) h (x .value) (x .distance)) (stopped (x .number) h)
+    (by-pick (λ (g : Hand). among (g .number) ofSymbol ≡ true) (eqb (x .number) DONE)
+    (advanced (radioOf mode) h (x .value) (x .distance)) (stopped (x .number) h)
     (λ _. advanced-given (radioOf mode) h (x .value) (x .distance)) (λ _. symbol-given (radioOf mode) w))
 
 -- ---- each call
 
 -- a symbol that push takes
-pub took-given : (c : Receiver) (part : List ℕ) → forged c ≡ false → c .ended ≡ MORE → among (tookSymbol c (symbolOf (radioOf (c .mode)) part) .number) ofSymbol ≡ true
+pub took-given : (c : Receiver) (part : List ℕ) → forged c ≡ false → c .ended ≡ MORE
+    → among (tookSymbol c (symbolOf (radioOf (c .mode)) part) .number) ofSymbol ≡ true
 took-given c part f o = followed-given (c .mode) (passed-known c f (inl o)) (handOf c) part
 
 -- what is true of push's ways
@@ -120,13 +122,15 @@ push-numbers c part =
     given : List ℕ
     given = DONE ∷ NOCHIP ∷ LOST ∷ PREAMBLE ∷ BADSTART ∷ RESERVED ∷ ENDED ∷ BADPART ∷ MORE ∷ FORGED ∷ []
 
--- 34, 10 and 11 give the record back as it was. Any other number is the one that the record then holds: 13 while it is open, or what ended it.
+-- 34, 10 and 11 give the record back as it was. Any other number is the one that the record then
+-- holds: 13 while it is open, or what ended it.
 pub push-tells : (c : Receiver) (part : List ℕ)
     → ((among (pushOf c part .number) (ENDED ∷ BADPART ∷ FORGED ∷ []) ≡ true) × (pushOf c part .receiver ≡ c))
     ⊎ ((among (pushOf c part .number) ofSymbol ≡ true) × (pushOf c part .receiver .ended ≡ pushOf c part .number))
 push-tells c part =
     push-ways c part
-    (λ (s : Step). ((among (s .number) (ENDED ∷ BADPART ∷ FORGED ∷ []) ≡ true) × (s .receiver ≡ c)) ⊎ ((among (s .number) ofSymbol ≡ true) × (s .receiver .ended ≡ s .number)))
+    (λ (s : Step). ((among (s .number) (ENDED ∷ BADPART ∷ FORGED ∷ []) ≡ true) × (s .receiver ≡ c))
+    ⊎ ((among (s .number) ofSymbol ≡ true) × (s .receiver .ended ≡ s .number)))
     (λ _. inl (refl, refl)) (inl (refl, refl)) (inl (refl, refl)) (λ f o. inr (took-given c part f o, refl))
 
 -- Start gives back one of these.
@@ -135,7 +139,8 @@ unfolding startOf
 start-numbers mode = by-pick (λ (s : Step). among (s .number) (BADMODE ∷ MORE ∷ []) ≡ true) (known mode) _ _ (λ _. refl) (λ _. refl)
 
 -- what is true of finish's ways
-pub finish-ways : (c : Receiver) (P : Step → Type 0) → (forged c ≡ true → P (step FORGED c)) → P (step ENDED c) → P (step RUNOUT (endedWith RUNOUT c)) → P (finishOf c)
+pub finish-ways : (c : Receiver) (P : Step → Type 0) → (forged c ≡ true → P (step FORGED c))
+    → P (step ENDED c) → P (step RUNOUT (endedWith RUNOUT c)) → P (finishOf c)
 unfolding finishOf
 finish-ways c P f e r = by-pick P (forged c) _ _ f (λ _. by-pick P (not (isOpen c)) _ _ (λ _. e) (λ _. r))
 
@@ -161,7 +166,8 @@ unfolding told
 take-numbers c buffer = takes-ways c (length buffer) P (λ _. inl refl) (inl refl) (inl refl) (inl refl) (λ m d. inr (refl, m, d))
   where
     P : Answer → Type 0
-    P a = (among (told a .number) (DONE ∷ NOROOM ∷ NOTENDED ∷ FORGED ∷ []) ≡ true) ⊎ ((told a .number ≡ c .ended) × (c .ended ≡ MORE → ⊥) × (c .ended ≡ DONE → ⊥))
+    P a = (among (told a .number) (DONE ∷ NOROOM ∷ NOTENDED ∷ FORGED ∷ []) ≡ true)
+        ⊎ ((told a .number ≡ c .ended) × (c .ended ≡ MORE → ⊥) × (c .ended ≡ DONE → ⊥))
 
 -- ---- what a refusal leaves
 
@@ -171,7 +177,8 @@ pub take-refused : (c : Receiver) (buffer : List ℕ) → (takeOf c buffer .answ
 take-refused c buffer = leaves (takes c (length buffer)) buffer
 
 -- a hand that a symbol stops stays as it was, but for the number
-followed-stops : (mode : ℕ) (h : Hand) (x : Symbol) → (followed mode h x .number ≡ MORE → ⊥) → (followed mode h x .number ≡ DONE → ⊥) → followed mode h x ≡ stopped (followed mode h x .number) h
+followed-stops : (mode : ℕ) (h : Hand) (x : Symbol) → (followed mode h x .number ≡ MORE → ⊥)
+    → (followed mode h x .number ≡ DONE → ⊥) → followed mode h x ≡ stopped (followed mode h x .number) h
 unfolding followed
 followed-stops mode h x =
     by-pick P (known mode) _ _

@@ -1,6 +1,6 @@
--- Take of a record that calls made and that ended well: it holds a report, which take gives into any
--- buffer with room; into a shorter one it gives 3, at the number of symbols of that report's frame.
--- No other record that calls made gives 3. Assumes nothing.
+-- Take of a record that calls made and that ended well: it holds a report, which take gives into
+-- any buffer with room; into a shorter one it gives 3, at the number of symbols of that report's
+-- frame. No other record that calls made gives 3. Assumes nothing.
 use mathlib.Core.Path.{_≡_, refl, sym, ap, _∙_}
 use mathlib.Core.Bool.{true, false}
 use mathlib.Core.List.{List}

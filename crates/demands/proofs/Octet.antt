@@ -59,7 +59,9 @@ module _ (r : Radio) (S : Sound r) where
   unfolding octetsFrom
   octets-below k zero bs p = tt
   octets-below k (suc n) bs p = (
-    octet-below (take (perOctet r) (drop (k * perOctet r) bs)) (below-take (2 ^ r .bits) (perOctet r) (drop (k * perOctet r) bs) (below-drop (2 ^ r .bits) (k * perOctet r) bs p)) (simp length-take (min-le-left _ _)),
+    octet-below (take (perOctet r) (drop (k * perOctet r) bs))
+        (below-take (2 ^ r .bits) (perOctet r) (drop (k * perOctet r) bs) (below-drop (2 ^ r .bits) (k * perOctet r) bs p))
+        (simp length-take (min-le-left _ _)),
     octets-below (suc k) n bs p,
   )
 
@@ -69,7 +71,14 @@ module _ (r : Radio) (S : Sound r) where
   octets-raws [] p = refl
   octets-raws (x ∷ xs) p =
       let l = digits-long (perOctet r) (2 ^ r .bits) x in
-      rw (zero-mul, take-at (rawOf r x) (raws r xs) (perOctet r) l, octet-raw x (p .0), octets-next r 0 (length xs) (rawOf r x ++ raws r xs), drop-at (rawOf r x) (raws r xs) (perOctet r) l, octets-raws xs (p .1))
+      rw (
+        zero-mul,
+        take-at (rawOf r x) (raws r xs) (perOctet r) l,
+        octet-raw x (p .0),
+        octets-next r 0 (length xs) (rawOf r x ++ raws r xs),
+        drop-at (rawOf r x) (raws r xs) (perOctet r) l,
+        octets-raws xs (p .1),
+      )
 
   -- the raw symbols of the octets of raw symbols are those raw symbols
   pub raws-octets : (n : ℕ) (bs : List ℕ) → Below (2 ^ r .bits) bs → length bs ≡ n * perOctet r → raws r (octetsFrom r 0 n bs) ≡ bs
@@ -79,4 +88,10 @@ module _ (r : Radio) (S : Sound r) where
   raws-octets (suc n) bs p e =
       let l : length bs ≡ n * perOctet r + perOctet r = e ∙ suc-mul n (perOctet r) in
       let d : length (drop (perOctet r) bs) ≡ n * perOctet r = simp length-drop (omega arith) in
-      rw (zero-mul, raw-octet (take (perOctet r) bs) (below-take _ (perOctet r) bs p) (length-take-le (perOctet r) bs (omega arith)), octets-next r 0 n bs, raws-octets n (drop (perOctet r) bs) (below-drop _ (perOctet r) bs p) d, take-append-drop)
+      rw (
+        zero-mul,
+        raw-octet (take (perOctet r) bs) (below-take _ (perOctet r) bs p) (length-take-le (perOctet r) bs (omega arith)),
+        octets-next r 0 n bs,
+        raws-octets n (drop (perOctet r) bs) (below-drop _ (perOctet r) bs p) d,
+        take-append-drop,
+      )

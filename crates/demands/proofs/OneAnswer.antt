@@ -1,5 +1,5 @@
--- A buffer has at most one answer, which depends neither on chips after the frame, nor on how much room there is past the report, nor
--- on what the report buffer held. Assumes nothing.
+-- A buffer has at most one answer, which depends neither on chips after the frame, nor on how much
+-- room there is past the report, nor on what the report buffer held. Assumes nothing.
 use mathlib.Core.Path.{_≡_, sym, ap, _∙_}
 use mathlib.Core.List.{List, _++_}
 use Prim.Native.Nat.{ℕ, _≤_}

@@ -1,5 +1,5 @@
--- A reading that is done is a run of symbols: each is read, the rules want more after each but the last, and are done after that.
--- Both ways, for any radio. Assumes nothing.
+-- A reading that is done is a run of symbols: each is read, the rules want more after each but the
+-- last, and are done after that. Both ways, for any radio. Assumes nothing.
 use mathlib.Core.Path.{_≡_, sym, ap, _∙_}
 use mathlib.Core.Logic.{⊎-elim}
 use mathlib.Core.List.{List, []}
@@ -78,7 +78,8 @@ module _ (r : Radio) (room : ℕ) (ws : List (List ℕ)) where
       (record { from = omega arith; inside = R .inside; good = λ j h. R .good j (omega arith); more = λ j h. R .more j (omega arith); last = R .last }))
 
   -- a reading that is done is that of a run
-  pub reading-run : (n m place count : ℕ) (report : List ℕ) → m + n ≡ length ws → rest r ws room m ≡ done place report count → (k : ℕ) × Run r room ws m k × (ending r ws k ≡ done place report count)
+  pub reading-run : (n m place count : ℕ) (report : List ℕ) → m + n ≡ length ws
+      → rest r ws room m ≡ done place report count → (k : ℕ) × Run r room ws m k × (ending r ws k ≡ done place report count)
   unfolding concluded doneNumber
   reading-run zero m place count report l e =
       absurd (omega (arith, ap doneNumber (sym (rest-out r ws room m (omega arith)) ∙ e)))
@@ -88,7 +89,18 @@ module _ (r : Radio) (room : ℕ) (ws : List (List ℕ)) where
       (λ a. by-test (eqb x MORE)
       (λ b. further (eqb-true _ _ a) (eqb-true _ _ b) (reading-run n (suc m) place count report (omega arith) (rw (a, b) at q)))
       (λ b. by-test (eqb x DONE)
-      (λ c. (m, record { from = omega arith; inside = h; good = λ j u v. let w : j ≡ m = omega arith in rw w (eqb-true _ _ a); more = λ j u v. absurd (omega arith); last = eqb-true _ _ c }, rw (a, b, c) at q))
+      (λ c. (
+        m,
+        record {
+          from = omega arith;
+          inside = h;
+          good = λ j u v. let w : j ≡ m = omega arith in
+              rw w (eqb-true _ _ a);
+          more = λ j u v. absurd (omega arith);
+          last = eqb-true _ _ c;
+        },
+        rw (a, b, c) at q,
+      ))
       (λ c. absurd (omega (arith, ap doneNumber (rw (a, b, c) at q))))))
       (λ a. absurd (omega (arith, ap doneNumber (rw a at q))))
     where
@@ -98,7 +110,8 @@ module _ (r : Radio) (room : ℕ) (ws : List (List ℕ)) where
       x : ℕ
       x = verdict r room m (rawsTo r ws (suc m))
 
-      further : symbolOf r (getD ws m []) .number ≡ DONE → x ≡ MORE → (k : ℕ) × Run r room ws (suc m) k × (ending r ws k ≡ done place report count) → (k : ℕ) × Run r room ws m k × (ending r ws k ≡ done place report count)
+      further : symbolOf r (getD ws m []) .number ≡ DONE → x ≡ MORE → (k : ℕ) × Run r room ws (suc m) k
+          × (ending r ws k ≡ done place report count) → (k : ℕ) × Run r room ws m k × (ending r ws k ≡ done place report count)
       further a b (k, R, o) = (
         k,
         record {

@@ -1,5 +1,5 @@
--- An accepted buffer with one wrong chip of its frame put right is accepted with the same report and a count one less.
--- Assumes nothing.
+-- An accepted buffer with one wrong chip of its frame put right is accepted with the same report
+-- and a count one less. Assumes nothing.
 use mathlib.Core.Path.{_≡_, sym, ap, _∙_}
 use mathlib.Core.List.{List}
 use Prim.Native.Nat.{ℕ, suc, _*_, _<_}

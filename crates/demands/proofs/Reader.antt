@@ -32,7 +32,8 @@ module _ (mode : ℕ) (k : known mode ≡ true) (chips buffer report : List ℕ)
       let l : length other ≡ length report = ap (λ (o : Outcome Reading). o .answer .n) e in
       let b : other ++ drop (length other) buffer ≡ report ++ drop (length report) buffer = ap (λ (o : Outcome Reading). o .buffer) e in
       let same : other ≡ report =
-      sym (take-at other (drop (length other) buffer) (length report) l) ∙ ap (take (length report)) b ∙ take-at report (drop (length report) buffer) (length report) refl in
+      sym (take-at other (drop (length other) buffer) (length report) l)
+      ∙ ap (take (length report)) b ∙ take-at report (drop (length report) buffer) (length report) refl in
       rw (ap (λ (o : Outcome Reading). o .answer .place) e, ap (λ (o : Outcome Reading). o .answer .count) e, same)
 
   -- The reader's outcome is this report's and count's exactly when the reading answers them.
@@ -46,7 +47,8 @@ module _ (mode : ℕ) (k : known mode ≡ true) (chips buffer report : List ℕ)
       )
 
   -- With room, it is so exactly when the chips are near the report's frame with that count.
-  pub reads-report : length report ≤ length buffer → (readOf mode chips buffer ≡ success mode buffer report count) ↔ (Report report × Near (radioOf mode) chips report count)
+  pub reads-report : length report ≤ length buffer → (readOf mode chips buffer ≡ success mode buffer report count)
+      ↔ (Report report × Near (radioOf mode) chips report count)
   reads-report h =
       let d = demand-3 (radioOf mode) (sound mode) (length buffer) chips report count h in
       (λ o. d .0 (success-answers .0 o), λ n. success-answers .1 (d .1 n))

@@ -1,5 +1,5 @@
--- Chips put right: what setting one place of a list as in another does to their distance, to that of their parts, and to bytes that
--- are no chips. Assumes nothing.
+-- Chips put right: what setting one place of a list as in another does to their distance, to that
+-- of their parts, and to bytes that are no chips. Assumes nothing.
 use mathlib.Core.Path.{_≡_, refl}
 use mathlib.Core.Bool.{true, false}
 use mathlib.Core.List.{List, [], _∷_}

@@ -1,4 +1,5 @@
--- Windows that begin with given symbols, each within the limit, and the values that are then read. For any radio. Assumes nothing.
+-- Windows that begin with given symbols, each within the limit, and the values that are then read.
+-- For any radio. Assumes nothing.
 use mathlib.Core.Path.{_≡_, refl, sym, ap, _∙_}
 use mathlib.Core.List.{List, [], _∷_, map}
 use Prim.Native.Nat.{ℕ, zero, suc, _≤_, _<_}
@@ -13,7 +14,8 @@ use Rattle.reader.specs.Order.{values, repaired}
 use Rattle.reader.proofs.Windows.{seen, seen-front}
 use Rattle.reader.proofs.Carried as carried
 
--- the windows begin with the symbols vs, at the distances from their words; count chips are repaired in all
+-- the windows begin with the symbols vs, at the distances from their words; count chips are
+-- repaired in all
 pub record Stands (r : Radio) (ws : List (List ℕ)) (vs : List ℕ) (count : ℕ) : Type 0 where
   pub enough : length vs ≤ length ws
   pub stands : (j : ℕ) → j < length vs → symbolOf r (getD ws j []) ≡ reads (getD vs j 0) (distance (getD ws j []) (word r (getD vs j 0)))

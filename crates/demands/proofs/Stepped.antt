@@ -61,7 +61,8 @@ module _ (c : Receiver) (o : c .ended ≡ MORE) (f : forged c ≡ false) (ws : L
     unfolding pushOf
     push-counts e =
         rw (f, eq-eqb (c .ended) MORE o, eq-eqb (length (getD ws s [])) (radioOf (c .mode) .size) e)
-        (not-true _ (among-pass (λ x. not (stray x)) ofSymbol refl (tookSymbol c (symbolOf (radioOf (c .mode)) (getD ws s [])) .number) (took-given c (getD ws s []) f o)))
+        (not-true _ (among-pass (λ x. not (stray x)) ofSymbol refl
+        (tookSymbol c (symbolOf (radioOf (c .mode)) (getD ws s [])) .number) (took-given c (getD ws s []) f o)))
 
     counts-next : length (getD ws s []) ≡ radioOf (c .mode) .size → Counts next (drop (suc s) ws) → Counts c (drop s ws)
     unfolding inOrder counted called
@@ -96,8 +97,10 @@ module _ (mode : ℕ) (k : known mode ≡ true) (ws : List (List ℕ)) (sized : 
   goes-on : (n : ℕ) (c : Receiver) → Going mode ws c → n + c .taken ≡ length ws → From c (c .taken)
   goes-on zero c G e =
       let o = going-open mode k ws c G in
-      let f = honest mode k ws c G in
-      (subst (Gone answer) (sym (order-out c o f ws (c .taken) (omega arith))) (finish-gone mode k ws c G (omega arith)), counts-out c o f ws (c .taken) (omega arith))
+      let f = honest mode k ws c G in (
+        subst (Gone answer) (sym (order-out c o f ws (c .taken) (omega arith))) (finish-gone mode k ws c G (omega arith)),
+        counts-out c o f ws (c .taken) (omega arith),
+      )
   goes-on (suc n) c G e =
       let o = going-open mode k ws c G in
       let f = honest mode k ws c G in
@@ -115,7 +118,8 @@ module _ (mode : ℕ) (k : known mode ≡ true) (ws : List (List ℕ)) (sized : 
       (subst (Gone answer) (sym (order-next c o f ws (c .taken) l)) (next .0), counts-next c o f ws (c .taken) l (rw (G .own) (sized (c .taken) l)) (next .1))
 
   all-over : From (startOf mode .receiver) 0
-  all-over = subst (From (startOf mode .receiver)) (start-taken mode) (goes-on (length ws) (startOf mode .receiver) (start-going mode k ws) (omega (arith, start-taken mode)))
+  all-over = subst (From (startOf mode .receiver)) (start-taken mode)
+      (goes-on (length ws) (startOf mode .receiver) (start-going mode k ws) (omega (arith, start-taken mode)))
 
 -- at every mode number, over the whole symbols of a buffer
 module _ (mode : ℕ) (chips : List ℕ) where
@@ -159,6 +163,7 @@ module _ (mode : ℕ) (chips : List ℕ) where
     in-order-reads = in-order-takes buffer ∙ rw l (ap (λ (a : Answer). answered a buffer) room-enough)
 
     -- And whatever calls that answered 10, 11 or 12 came between.
-    pub steps-read : (xs : List Call) → counted begun xs ≡ inOrder begun (whole (radioOf mode) chips) → takeOf (after begun xs) buffer ≡ readOf mode chips buffer
+    pub steps-read : (xs : List Call) → counted begun xs ≡ inOrder begun (whole (radioOf mode) chips)
+        → takeOf (after begun xs) buffer ≡ readOf mode chips buffer
     steps-read xs e =
         ap (λ (c : Receiver). takeOf c buffer) (sym (no-difference begun xs) ∙ ap (after begun) e) ∙ in-order-reads

@@ -1,5 +1,5 @@
--- Calls that answered 10, 11 or 12 make no difference: without them the other calls answer the same numbers, and the record is the same
--- at the end. For every record. Assumes nothing.
+-- Calls that answered 10, 11 or 12 make no difference: without them the other calls answer the same
+-- numbers, and the record is the same at the end. For every record. Assumes nothing.
 use mathlib.Core.Path.{_≡_, refl, sym, ap, _∙_}
 use mathlib.Core.Bool.{true, false, not}
 use mathlib.Core.List.{List, [], _∷_, _++_}
@@ -19,7 +19,8 @@ stray-same : (c : Receiver) (x : Call) → stray (called c x .number) ≡ true �
 unfolding called
 stray-same c (pushing part) =
     push-ways c part (λ (s : Step). stray (s .number) ≡ true → s .receiver ≡ c) (λ _ t. refl) (λ t. refl) (λ t. refl)
-    (λ f o t. not-both _ t (not-true _ (among-pass (λ x. not (stray x)) ofSymbol refl (tookSymbol c (symbolOf (radioOf (c .mode)) part) .number) (took-given c part f o))))
+    (λ f o t. not-both _ t (not-true _ (among-pass (λ x. not (stray x)) ofSymbol refl
+    (tookSymbol c (symbolOf (radioOf (c .mode)) part) .number) (took-given c part f o))))
 stray-same c finishing = finish-ways c (λ (s : Step). stray (s .number) ≡ true → s .receiver ≡ c) (λ _ t. refl) (λ t. refl) (λ t. not-both false t refl)
 stray-same c (taking buffer) = λ t. refl
 
@@ -44,7 +45,8 @@ same-numbers c (x ∷ xs) =
     (λ t. rw t (ap (λ (ns : List ℕ). called c x .number ∷ ns) (same-numbers d xs)))
 
 -- Put in anywhere, such a call leaves the list of the others as it was.
-pub stray-between : (c : Receiver) (xs : List Call) (x : Call) (ys : List Call) → stray (called (after c xs) x .number) ≡ true → counted c (xs ++ x ∷ ys) ≡ counted c (xs ++ ys)
+pub stray-between : (c : Receiver) (xs : List Call) (x : Call) (ys : List Call)
+    → stray (called (after c xs) x .number) ≡ true → counted c (xs ++ x ∷ ys) ≡ counted c (xs ++ ys)
 unfolding after counted
 stray-between c [] x ys t = rw t (ap (λ (d : Receiver). counted d ys) (stray-same c x t))
 stray-between c (z ∷ xs) x ys t =

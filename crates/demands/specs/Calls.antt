@@ -59,8 +59,8 @@ inOrder c (w ∷ ws) = pick (isOpen c) (pushing w ∷ inOrder (pushOf c w .recei
 
 -- One of the document's four tests of a record fails: its mode has no radio, its length is above
 -- 127, its count is above the accepted distance times the symbols taken, or the symbols taken don't
--- fit (`misfit`) the number of symbols of the frame of a report of that length. (That number goes by
--- the length alone, so what holds of one such report holds of each.)
+-- fit (`misfit`) the number of symbols of the frame of a report of that length. (That number goes
+-- by the length alone, so what holds of one such report holds of each.)
 pub data Faulty (misfit : ℕ → Type 0) (c : Receiver) : Type 0 where
   no-radio : known (c .mode) ≡ false → Faulty misfit c
   too-long : 127 < c .length → Faulty misfit c

@@ -1,5 +1,6 @@
--- The words that the demands are stated with: a report; that the reading answers a report and a count; chips that are a report's frame
--- but for a few in each symbol; the sum of differences; and the reader's outcome that tells a report.
+-- The words that the demands are stated with: a report; that the reading answers a report and a
+-- count; chips that are a report's frame but for a few in each symbol; the sum of differences; and
+-- the reader's outcome that tells a report.
 use mathlib.Core.Path.{_≡_}
 use mathlib.Core.Bool.{false}
 use mathlib.Core.List.{List, _++_}
@@ -22,8 +23,8 @@ pub record Report (report : List ℕ) : Type 0 where
 abbrev pub Answers : Radio → ℕ → List ℕ → List ℕ → ℕ → Type 0
 Answers r room chips report count = reading r room chips ≡ done (length (symbols r report)) report count
 
--- The chips begin with chips 0 or 1 whose distance from the report's frame is at most the limit in each symbol's window, and
--- count is the distance of the whole prefix from the whole frame.
+-- The chips begin with chips 0 or 1 whose distance from the report's frame is at most the limit in
+-- each symbol's window, and count is the distance of the whole prefix from the whole frame.
 pub record Near (r : Radio) (chips report : List ℕ) (count : ℕ) : Type 0 where
   pub long : length (frame r report) ≤ length chips
   pub chip : bad (take (length (frame r report)) chips) ≡ false
@@ -35,7 +36,8 @@ unfoldable pub differences : Radio → List ℕ → List ℕ → ℕ → ℕ
 differences r xs ys zero = 0
 differences r xs ys (suc k) = differences r xs ys k + distance (window r xs k) (window r ys k)
 
--- the reader's outcome that says this report and this count, and leaves the report at the front of the lent buffer
+-- the reader's outcome that says this report and this count, and leaves the report at the front of
+-- the lent buffer
 abbrev pub success : ℕ → List ℕ → List ℕ → ℕ → Outcome Reading
 success mode buffer report count =
     outcome (record { number = DONE; place = length (symbols (radioOf mode) report); n = length report; count = count })

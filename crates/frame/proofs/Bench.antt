@@ -1,4 +1,5 @@
--- The bench sheet of document 01, A to L, shown of the definitions together in one statement. Assumes nothing.
+-- The bench sheet of document 01, A to L, shown of the definitions together in one statement.
+-- Assumes nothing.
 use mathlib.Core.Path.{_≡_, refl}
 use mathlib.Core.Bool.{Bool}
 use mathlib.Core.List.{List, [], _∷_}
@@ -42,8 +43,10 @@ pub record BenchSheet : Type 0 where
   pub I : symbolOf bpsk (inverted 6 (word bpsk 0)) ≡ reads 0 6
   -- with seven: 6; with nine it reads as 1
   pub J : (symbolOf bpsk (inverted 7 (word bpsk 0)) ≡ refused LOST) × (symbolOf bpsk (inverted 9 (word bpsk 0)) ≡ reads 1 6)
-  -- the start octet is symbols 7, 10 in mode 1 and encoded bits 1 0 1 1 1 0 0 1 after the preamble in mode 0
-  pub K : (report : List ℕ) → (take 2 (drop 8 (symbols oqpsk report)) ≡ 7 ∷ 10 ∷ []) × (take 8 (drop 32 (symbols bpsk report)) ≡ 1 ∷ 0 ∷ 1 ∷ 1 ∷ 1 ∷ 0 ∷ 0 ∷ 1 ∷ [])
+  -- the start octet is symbols 7, 10 in mode 1 and encoded bits 1 0 1 1 1 0 0 1 after the preamble
+  -- in mode 0
+  pub K : (report : List ℕ) → (take 2 (drop 8 (symbols oqpsk report)) ≡ 7 ∷ 10 ∷ [])
+      × (take 8 (drop 32 (symbols bpsk report)) ≡ 1 ∷ 0 ∷ 1 ∷ 1 ∷ 1 ∷ 0 ∷ 0 ∷ 1 ∷ [])
   -- five octets give 704 chips in mode 1 and 1,320 in mode 0
   pub L : (report : List ℕ) → length report ≡ 5 → (length (frame oqpsk report) ≡ 704) × (length (frame bpsk report) ≡ 1320)
 

@@ -1,5 +1,5 @@
--- The chain runs through the whole frame: symbol j is what is sent for raw symbol j after the symbol before it, the first after 0.
--- Assumes nothing.
+-- The chain runs through the whole frame: symbol j is what is sent for raw symbol j after the
+-- symbol before it, the first after 0. Assumes nothing.
 use mathlib.Core.Path.{_≡_, refl, ap}
 use mathlib.Core.List.{List, [], _∷_}
 use Prim.Native.Nat.{ℕ, zero, suc, _<_}
@@ -14,7 +14,8 @@ module _ (r : Radio) where
   encode-long last [] = refl
   encode-long last (b ∷ bs) = ap suc (encode-long (sent r last b) bs)
 
-  encode-next : (last : ℕ) (bs : List ℕ) (j : ℕ) → suc j < length bs → getD (encode r last bs) (suc j) 0 ≡ sent r (getD (encode r last bs) j 0) (getD bs (suc j) 0)
+  encode-next : (last : ℕ) (bs : List ℕ) (j : ℕ) → suc j < length bs
+      → getD (encode r last bs) (suc j) 0 ≡ sent r (getD (encode r last bs) j 0) (getD bs (suc j) 0)
   unfolding encode
   encode-next last [] j h = absurd (omega arith)
   encode-next last (b ∷ []) j h = absurd (omega arith)

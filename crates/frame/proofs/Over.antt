@@ -35,5 +35,6 @@ over-over d at k a b e h =
     let front : take (at + k) (take at d ++ (a ++ drop (at + length a) d)) ≡ take at d ++ a =
     rw (← t) (take-at (take at d ++ a) (drop (at + length a) d) (at + k) l) in
     let back : drop (at + k + length b) (take at d ++ (a ++ drop (at + length a) d)) ≡ drop (at + length (a ++ b)) d =
-    rw (← t, m) (drop-past (take at d ++ a) (drop (at + length a) d) (at + k) (length b) l ∙ drop-drop (length b) (at + length a) d ∙ ap (λ (n : ℕ). drop (n + length b) d) s) in
+    rw (← t, m) (drop-past (take at d ++ a) (drop (at + length a) d) (at + k) (length b) l
+    ∙ drop-drop (length b) (at + length a) d ∙ ap (λ (n : ℕ). drop (n + length b) d) s) in
     rw (front, back) (simp append-assoc)

@@ -1,5 +1,6 @@
--- Which symbols are which part of the frame (document 01's table of symbol numbers): the raw symbols from each number on are
--- those of that part's octets. What is sent for them is Chain.antt's. Assumes nothing.
+-- Which symbols are which part of the frame (document 01's table of symbol numbers): the raw
+-- symbols from each number on are those of that part's octets. What is sent for them is
+-- Chain.antt's. Assumes nothing.
 use mathlib.Core.Path.{_≡_, refl, sym, ap, _∙_}
 use mathlib.Core.List.{List, [], _∷_, _++_, append-assoc}
 use Prim.Native.Nat.{ℕ, _+_, _*_, _^_}
@@ -11,7 +12,8 @@ use Rattle.codes.specs.Radio.{Radio, bpsk, oqpsk}
 use Rattle.frame.specs.Frame.{startOctet, octets, perOctet, rawOf, raws, symbols}
 use Rattle.frame.proofs.Count.{digits-long, raws-long, symbols-long}
 
--- the preamble is before symbol p, the start octet before s, the length octet before l, and the report after it
+-- the preamble is before symbol p, the start octet before s, the length octet before l, and the
+-- report after it
 pub record Parts (r : Radio) (p s l k : ℕ) : Type 0 where
   pub preamble : (report : List ℕ) → take p (raws r (octets report)) ≡ raws r (0 ∷ 0 ∷ 0 ∷ 0 ∷ [])
   pub start : (report : List ℕ) → take k (drop p (raws r (octets report))) ≡ rawOf r startOctet
@@ -43,7 +45,12 @@ module _ (r : Radio) where
         start = λ report. rw (after (0 ∷ 0 ∷ 0 ∷ 0 ∷ []) (startOctet ∷ length report ∷ report) p ep, ← ek) (one startOctet (length report ∷ report));
         length-octet = λ report. rw (after (0 ∷ 0 ∷ 0 ∷ 0 ∷ startOctet ∷ []) (length report ∷ report) s es, ← ek) (one (length report) report);
         rest = λ report. after (0 ∷ 0 ∷ 0 ∷ 0 ∷ startOctet ∷ length report ∷ []) report l el;
-        total = λ report. symbols-long r report ∙ omega (arith, add-mul 6 (length report) (perOctet r), mul-comm (length report) (perOctet r), ap (λ (n : ℕ). n * length report) ek);
+        total = λ report. symbols-long r report ∙ omega (
+          arith,
+          add-mul 6 (length report) (perOctet r),
+          mul-comm (length report) (perOctet r),
+          ap (λ (n : ℕ). n * length report) ek,
+        );
       }
 
 -- preamble 0 to 31, start octet 32 to 39, length octet 40 to 47, report 48 to 47 + 8n

@@ -1,5 +1,6 @@
--- The promises settle what they speak of: two outcomes that satisfy one are equal. The writer's settles its answer and every byte
--- of the lent buffer at exit; it speaks of the writer's own contract, as `Settles` does. Assumes nothing.
+-- The promises settle what they speak of: two outcomes that satisfy one are equal. The writer's
+-- settles its answer and every byte of the lent buffer at exit; it speaks of the writer's own
+-- contract, as `Settles` does. Assumes nothing.
 use mathlib.Core.Path.{_≡_, ap}
 use mathlib.Core.List.{List}
 use Prim.Native.Nat.{ℕ}

@@ -1,5 +1,6 @@
--- How far each of the writer's loops has come, over plain values: what is still to be written over the buffer is what the loop
--- set out to write. Each loop has a law for its start, its turn and its end, over any sound radio. Assumes nothing.
+-- How far each of the writer's loops has come, over plain values: what is still to be written over
+-- the buffer is what the loop set out to write. Each loop has a law for its start, its turn and its
+-- end, over any sound radio. Assumes nothing.
 use mathlib.Core.Path.{_≡_, refl, sym, ap, _∙_}
 use mathlib.Core.List.{List, [], _∷_, _++_, append-assoc}
 use Prim.Native.Nat.{ℕ, suc, _+_, _-_, _*_, _/_, _%_, _^_, _≤_, _<_}
@@ -33,7 +34,8 @@ module _ (r : Radio) where
   last-below S last [] h p = h
   last-below S last (b ∷ bs) h p = last-below S (sent r last b) bs (sent-below r S last b (p .0)) (p .1)
 
--- the octet's loop at symbol i, after the symbol v: digits of `rest` are still to go out, from the place p on
+-- the octet's loop at symbol i, after the symbol v: digits of `rest` are still to go out, from the
+-- place p on
 pub record OctetLeft (r : Radio) (last octet at : ℕ) (start out : List ℕ) (v rest p i : ℕ) : Type 0 where
   pub upto : i ≤ perOctet r
   pub value : v < 2 ^ r .bits
@@ -72,7 +74,8 @@ module _ (r : Radio) (last octet at : ℕ) (start : List ℕ) where
         unfolding digits
         next-digit = let s : perOctet r - i ≡ suc (perOctet r - (i + 1)) = omega arith in rw (s, q)
 
-        pub octet-turns : (out′ : List ℕ) (size : ℕ) → length out′ ≡ length out → out′ ≡ over out p (word r v′) → size ≡ r .size → OctetLeft r last octet at start out′ v′ rest′ (p + size) (i + 1)
+        pub octet-turns : (out′ : List ℕ) (size : ℕ) → length out′ ≡ length out → out′ ≡ over out p (word r v′)
+            → size ≡ r .size → OctetLeft r last octet at start out′ v′ rest′ (p + size) (i + 1)
         unfolding lastSent encode chipsOf
         octet-turns out′ size l w z =
             record {
@@ -83,10 +86,12 @@ module _ (r : Radio) (last octet at : ℕ) (start : List ℕ) where
               tail-last = L .tail-last ∙ rw (next-digit, e);
               tail = L .tail
                   ∙ rw (next-digit, ← e, w, z)
-                  (sym (over-over out p (r .size) (word r v′) (chipsOf r (encode r v′ (digits (perOctet r - (i + 1)) (2 ^ r .bits) rest′))) (word-long r S v′ octet-value) octet-room));
+                  (sym (over-over out p (r .size) (word r v′)
+                  (chipsOf r (encode r v′ (digits (perOctet r - (i + 1)) (2 ^ r .bits) rest′))) (word-long r S v′ octet-value) octet-room));
             }
 
--- the frame's loop at octet j, after the symbol `last`: the octets from j on are still to go out, from the place `at` on
+-- the frame's loop at octet j, after the symbol `last`: the octets from j on are still to go out,
+-- from the place `at` on
 pub record FrameLeft (r : Radio) (xs start out : List ℕ) (last at j : ℕ) : Type 0 where
   pub upto : j ≤ length xs
   pub value : last < 2 ^ r .bits

@@ -13,7 +13,8 @@ use Rattle.frame.specs.Putting.{over}
 use Rattle.frame.proofs.Over.{over-paste}
 
 -- at the size that the code holds
-module _ (mode : ℕ) (m : known mode ≡ true) (words : List ℕ) (t : words ≡ tableAt mode) (v : ℕ) (h : v < length (radioOf mode .words)) (size : ℕ) (e : radioOf mode .size ≡ size) where
+module _ (mode : ℕ) (m : known mode ≡ true) (words : List ℕ) (t : words ≡ tableAt mode) (v : ℕ)
+    (h : v < length (radioOf mode .words)) (size : ℕ) (e : radioOf mode .size ≡ size) where
   in-table : v * size + size ≤ 512
   in-table = rw e at (row-fits mode v h)
 

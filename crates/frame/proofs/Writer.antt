@@ -45,10 +45,12 @@ module _ (mode : ℕ) (report buffer : List ℕ) where
           → outcome (record { number = DONE; chips = count }) out ≡ written mode report buffer
       unfolding written frame
       done h out w = rw (m, le-ltb 127 (length report) l, is-count, le-ltb (length buffer) count h)
-          (ap (outcome _) (w ∙ over-front buffer (chipsOf (radioOf mode) (symbols (radioOf mode) report)) ∙ ap (λ (k : ℕ). frame (radioOf mode) report ++ drop k buffer) is-count))
+          (ap (outcome _) (w ∙ over-front buffer (chipsOf (radioOf mode) (symbols (radioOf mode) report))
+          ∙ ap (λ (k : ℕ). frame (radioOf mode) report ++ drop k buffer) is-count))
 
 -- the chips that it counts are in the buffer, which keeps its length
-pub chips-fit : (mode : ℕ) (report buffer : List ℕ) (w : Written) (b : List ℕ) → outcome w b ≡ written mode report buffer → length b ≡ length buffer → w .chips ≤ length b
+pub chips-fit : (mode : ℕ) (report buffer : List ℕ) (w : Written) (b : List ℕ)
+    → outcome w b ≡ written mode report buffer → length b ≡ length buffer → w .chips ≤ length b
 unfolding written
 chips-fit mode report buffer w b e k =
     rw (k, ap (λ (o : Outcome Written). o .answer .chips) e)

@@ -1,4 +1,5 @@
--- A report's frame: octets, symbols, chips (document 01, "The two radios" and "The frame"), for any radio.
+-- A report's frame: octets, symbols, chips (document 01, "The two radios" and "The frame"), for any
+-- radio.
 use Prim.Native.Nat.{ℕ, zero, suc, _+_, _/_, _%_, _^_}
 use mathlib.Core.List.{List, [], _∷_, _++_}
 use lib.ListN.{length}
@@ -9,8 +10,8 @@ use Rattle.codes.specs.Radio.{Radio, known, radioOf, word}
 abbrev pub startOctet : ℕ
 startOctet = 0xA7
 
--- Four octets of zero, one start octet, one length octet, then the report. The length octet has n in its low seven bits; its
--- top bit is written as 0.
+-- Four octets of zero, one start octet, one length octet, then the report. The length octet has n
+-- in its low seven bits; its top bit is written as 0.
 abbrev pub octets : List ℕ → List ℕ
 octets report = 0 ∷ 0 ∷ 0 ∷ 0 ∷ startOctet ∷ length report ∷ report
 
@@ -36,7 +37,8 @@ unfoldable pub raws : Radio → List ℕ → List ℕ
 raws r [] = []
 raws r (x ∷ xs) = rawOf r x ++ raws r xs
 
--- Each raw bit is first added modulo 2 to the bit encoded before it (mode 0). Without a chain a raw symbol goes out as it is.
+-- Each raw bit is first added modulo 2 to the bit encoded before it (mode 0). Without a chain a raw
+-- symbol goes out as it is.
 abbrev pub sent : Radio → ℕ → ℕ → ℕ
 sent r last b = pick (r .chained) ((last + b) % 2) b
 
@@ -45,7 +47,8 @@ unfoldable pub encode : Radio → ℕ → List ℕ → List ℕ
 encode r last [] = []
 encode r last (b ∷ bs) = sent r last b ∷ encode r (sent r last b) bs
 
--- the symbols of a report's frame: before the first one stands 0, and the chain runs through the whole frame
+-- the symbols of a report's frame: before the first one stands 0, and the chain runs through the
+-- whole frame
 unfoldable pub symbols : Radio → List ℕ → List ℕ
 symbols r report = encode r 0 (raws r (octets report))
 

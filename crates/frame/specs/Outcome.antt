@@ -1,4 +1,5 @@
--- What a function that is lent a buffer comes to. A promise says that this is one definition's value, so it settles both.
+-- What a function that is lent a buffer comes to. A promise says that this is one definition's
+-- value, so it settles both.
 use Prim.Native.Nat.{ℕ}
 use mathlib.Core.List.{List}
 

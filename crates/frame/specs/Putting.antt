@@ -1,5 +1,6 @@
--- Not to be believed: what the writer's loops do, piece by piece. The writer's promise does not name it; that the pieces come to
--- the frame is shown in proofs/Turns.antt (`octet-ends`, `frame-ends`) and proofs/Writer.antt (`done`).
+-- Not to be believed: what the writer's loops do, piece by piece. The writer's promise does not
+-- name it; that the pieces come to the frame is shown in proofs/Turns.antt (`octet-ends`,
+-- `frame-ends`) and proofs/Writer.antt (`done`).
 use Prim.Native.Nat.{ℕ, _+_, _*_}
 use mathlib.Core.List.{List, [], _∷_, _++_}
 use lib.ListN.{length, take, drop}

@@ -17,7 +17,8 @@ refused x = record { number = x; chips = 0 }
 abbrev pub unwritten : ℕ → List ℕ → Outcome Written
 unwritten x buffer = outcome (refused x) buffer
 
--- Done: it gives the chip count, the first chips of the buffer are the frame, and later bytes keep their values.
+-- Done: it gives the chip count, the first chips of the buffer are the frame, and later bytes keep
+-- their values.
 abbrev pub wrote : List ℕ → List ℕ → Outcome Written
 wrote chips buffer = outcome (record { number = DONE; chips = length chips }) (chips ++ drop (length chips) buffer)
 

@@ -1,6 +1,6 @@
-// A report's frame, and the writer that makes it: octets to symbols, symbols to chips. The loops over octets and over symbols keep
-// that what is still to be written over the buffer is what they set out to write, so each turn is one law about writing over
-// a list (proofs/Turns.antt).
+// A report's frame, and the writer that makes it: octets to symbols, symbols to chips. The loops
+// over octets and over symbols keep that what is still to be written over the buffer is what they
+// set out to write, so each turn is one law about writing over a list (proofs/Turns.antt).
 ghost use mathlib.Core.Path.{_≡_};
 ghost use mathlib.Core.Bool.{true};
 ghost use Prim.Native.Nat.{_+_, _*_, _/_, _%_, _^_, _≤_, _<_};
@@ -23,7 +23,8 @@ pub struct Written {
     pub chips: u32,
 }
 
-// Writes the frame of a report for the mode's radio over the first chips of the buffer: 1, 2 and 3 in that order.
+// Writes the frame of a report for the mode's radio over the first chips of the buffer: 1, 2 and 3
+// in that order.
 pub fn write(mode: u32, report: &[u8], chips: &mut [u8]) -> Written
     ensures { λ r. ⌜ outcome r (now (chips .exit)) ≡ written mode (now (report .entry)) (now (chips .entry)) ⌝ }
 {
@@ -51,8 +52,8 @@ fn refusal(number: u32) -> Written
     Written { number, chips: 0 }
 }
 
-// The frame over the front of the buffer. Each mode's table is made by itself, of constants: made in one place for either mode, it would be
-// put together chip by chip.
+// The frame over the front of the buffer. Each mode's table is made by itself, of constants: made
+// in one place for either mode, it would be put together chip by chip.
 fn put_frame(mode: u32, report: &[u8], out: &mut [u8])
     requires { ⌜ (known mode ≡ true) × (length (now report) ≤ 127) × ((6 + length (now report)) * octetChips (radioOf mode) ≤ length (now out)) ⌝ }
     ensures { λ _. ⌜ now (out .exit) ≡ over (now (out .entry)) 0 (chipsOf (radioOf mode) (symbols (radioOf mode) (now (report .entry)))) ⌝ }
@@ -68,7 +69,8 @@ fn put_frame(mode: u32, report: &[u8], out: &mut [u8])
 
 // Every octet of the frame in turn. The chain runs through all of them.
 fn put_octets(mode: u32, words: &[u8; 512], report: &[u8], out: &mut [u8])
-    requires { ⌜ (known mode ≡ true) × (length (now report) ≤ 127) × ((6 + length (now report)) * octetChips (radioOf mode) ≤ length (now out)) × (now words ≡ tableAt mode) ⌝ }
+    requires { ⌜ (known mode ≡ true) × (length (now report) ≤ 127)
+        × ((6 + length (now report)) * octetChips (radioOf mode) ≤ length (now out)) × (now words ≡ tableAt mode) ⌝ }
     ensures { λ _. ⌜ now (out .exit) ≡ over (now (out .entry)) 0 (chipsOf (radioOf mode) (symbols (radioOf mode) (now (report .entry)))) ⌝ }
 {
     let size = octet_chips(mode);

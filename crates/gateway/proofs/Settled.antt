@@ -1,6 +1,6 @@
--- The promises of the exported functions settle what they speak of: two outcomes that satisfy one are equal, the whole record that comes
--- back among them, and every byte of a lent buffer at exit. Each speaks of the function's own contract, as `Settles` does. Assumes
--- nothing.
+-- The promises of the exported functions settle what they speak of: two outcomes that satisfy one
+-- are equal, the whole record that comes back among them, and every byte of a lent buffer at exit.
+-- Each speaks of the function's own contract, as `Settles` does. Assumes nothing.
 use mathlib.Core.Path.{_≡_}
 use contract.Lifetimes.{Lfts}
 use denote.Ref.{now}

@@ -1,6 +1,7 @@
-// The functions that C calls, with the names, parameters and structs of include/lernazhup.h. Each is one call of the function of the
-// same name below it and promises what that one does, so there is nothing more to prove. The structs are those of `frame`, `reader`
-// and `receiver`, laid out as C lays them out.
+// The functions that C calls, with the names, parameters and structs of include/lernazhup.h. Each
+// is one call of the function of the same name below it and promises what that one does, so there
+// is nothing more to prove. The structs are those of `frame`, `reader` and `receiver`, laid out as
+// C lays them out.
 ghost use mathlib.Core.Path.{_≡_};
 ghost use Rattle.frame.specs.Outcome.{outcome};
 ghost use Rattle.frame.specs.Write.{written};

@@ -1,4 +1,5 @@
--- The hand carries the numbers of the symbols before it, and a symbol more keeps it so. Assumes nothing.
+-- The hand carries the numbers of the symbols before it, and a symbol more keeps it so. Assumes
+-- nothing.
 use mathlib.Core.Path.{_≡_, refl, sym, ap, _∙_}
 use mathlib.Core.Bool.{true}
 use mathlib.Core.List.{List, [], _∷_, _++_, map-append}
@@ -19,7 +20,19 @@ use Rattle.reader.specs.declared.Hand.{Hand}
 use Rattle.reader.specs.Received.{rawAfter, decode, received, octetAt}
 use Rattle.reader.specs.Order.{ends, rules, values, repaired, verdict}
 use Rattle.reader.specs.Taking.{begun, rawFrom, shifted, lengthAfter, moved}
-use Rattle.reader.proofs.Raw.{lastOf, last-snoc, last-below, decode-long, decode-snoc, decode-below, octet-stays, shifts, shifts-append, per-positive, last-octet}
+use Rattle.reader.proofs.Raw.{
+  lastOf,
+  last-snoc,
+  last-below,
+  decode-long,
+  decode-snoc,
+  decode-below,
+  octet-stays,
+  shifts,
+  shifts-append,
+  per-positive,
+  last-octet,
+}
 use Rattle.reader.proofs.Rules.{rules-same}
 
 -- the hand's numbers are those of the symbols before
@@ -48,7 +61,8 @@ pub values-long : (xs : List Symbol) → length (values xs) ≡ length xs
 values-long xs = length-map xs (λ (x : Symbol). x .value)
 
 -- the raw symbols with one symbol more
-pub received-snoc : (r : Radio) (xs : List Symbol) (x : Symbol) → received r (values (xs ++ x ∷ [])) ≡ received r (values xs) ++ rawAfter r (lastOf 0 (values xs)) (x .value) ∷ []
+pub received-snoc : (r : Radio) (xs : List Symbol) (x : Symbol)
+    → received r (values (xs ++ x ∷ [])) ≡ received r (values xs) ++ rawAfter r (lastOf 0 (values xs)) (x .value) ∷ []
 received-snoc r xs x = ap (received r) (values-snoc xs x) ∙ decode-snoc r 0 (values xs) (x .value)
 
 pub received-long : (r : Radio) (xs : List Symbol) → length (received r (values xs)) ≡ length xs
@@ -130,7 +144,8 @@ module _ (r : Radio) (S : Sound r) where
         ∙ getD-at (received r (values before)) raw [] 0 (length before) (received-long r before)
         ∙ sym raw-is in
         rw (g, C .taken)
-        (rules-same (perOctet r) room (length before) (rawFrom r (h .last) v) octet (octetAt r 4 bits) (lengthAfter (perOctet r) (length before) (h .length) octet) (octetAt r 5 bits) (octet-ends 4) (λ l. rw (C .taken) at (n-late l)))
+        (rules-same (perOctet r) room (length before) (rawFrom r (h .last) v) octet (octetAt r 4 bits)
+        (lengthAfter (perOctet r) (length before) (h .length) octet) (octetAt r 5 bits) (octet-ends 4) (λ l. rw (C .taken) at (n-late l)))
 
     -- and one symbol more is carried
     pub carries-more : suc (length before) < 2 ^ 32 → repaired before + d < 2 ^ 32 → (x : ℕ) → Carries r after (moved h x n d v octet)

@@ -81,15 +81,18 @@ module _ (r : Radio) (S : Sound r) where
       (λ a.
       let h : length before < (7 + k) * perOctet r = leb-false _ _ a in
       let w : (7 + k) * perOctet r ≡ g .taken = omega arith in
-      let c = last-octet r S (received r (values (before ++ x ∷ []))) (6 + k) (decode-below r S 0 (values (before ++ x ∷ [])) (C .below)) (received-long r (before ++ x ∷ []) ∙ sym t ∙ sym w ∙ ap (λ (j : ℕ). j * perOctet r) s) in
+      let c = last-octet r S (received r (values (before ++ x ∷ []))) (6 + k) (decode-below r S 0 (values (before ++ x ∷ [])) (C .below))
+      (received-long r (before ++ x ∷ []) ∙ sym t ∙ sym w ∙ ap (λ (j : ℕ). j * perOctet r) s) in
       let v : g .octet ≡ octetAt r (6 + k) (received r (values (before ++ x ∷ []))) = C .octet ∙ c .0 in
       kept-same (perOctet r) (per-positive r S) g octets k w l o ∙ ap (λ (j : ℕ). j % 256) v ∙ mod-eq-of-lt (c .1))
 
   -- once all are, they are the report
-  pub gathered-report : (before : List Symbol) (octets : List ℕ) (n : ℕ) → Gathered r before octets → length octets ≡ 127 → n ≤ 127 → (6 + n) * perOctet r ≤ length before
+  pub gathered-report : (before : List Symbol) (octets : List ℕ) (n : ℕ)
+      → Gathered r before octets → length octets ≡ 127 → n ≤ 127 → (6 + n) * perOctet r ≤ length before
       → take n octets ≡ octetsFrom r 6 n (received r (values before))
   gathered-report before octets n G o l e =
-      ext-getD 0 (take n octets) (octetsFrom r 6 n (received r (values before))) (length-take-le n octets (omega arith) ∙ sym (octets-long r 6 n (received r (values before))))
+      ext-getD 0 (take n octets) (octetsFrom r 6 n (received r (values before)))
+      (length-take-le n octets (omega arith) ∙ sym (octets-long r 6 n (received r (values before))))
       (λ i h.
       let m : i < n = omega (arith, length-take-le n octets (omega arith)) in
       getD-take n octets i 0 m

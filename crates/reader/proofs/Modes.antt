@@ -1,5 +1,5 @@
--- One symbol more at a mode, for the stepping receiver, and the laws of the reader's loop at a mode, over what the functions that it
--- calls promise. Assumes nothing.
+-- One symbol more at a mode, for the stepping receiver, and the laws of the reader's loop at a
+-- mode, over what the functions that it calls promise. Assumes nothing.
 use mathlib.Core.Path.{_≡_, refl, sym, ap, _∙_}
 use mathlib.Core.Bool.{true}
 use mathlib.Core.List.{List, []}
@@ -39,19 +39,22 @@ unfolding followed
 followed-is mode m h x l = rw m (sym (room-for-any (radioOf mode) h x l))
 
 -- a hand that carries the symbols before and wants more, and the symbol of any window
-pub followed-turned : (mode : ℕ) → known mode ≡ true → (before : List Symbol) (h : Hand) → Carries (radioOf mode) before h → Open (radioOf mode) 127 h → (w : List ℕ)
+pub followed-turned : (mode : ℕ) → known mode ≡ true → (before : List Symbol) (h : Hand)
+    → Carries (radioOf mode) before h → Open (radioOf mode) 127 h → (w : List ℕ)
     → Turned (radioOf mode) 127 before (symbolOf (radioOf mode) w) (followed mode h (symbolOf (radioOf mode) w))
 followed-turned mode m before h C O w =
     let x = symbolOf (radioOf mode) w in
     next-hand (radioOf mode) (sound mode) (low mode) 127 before h C O w x refl (followed mode h x) (followed-is mode m h x (O .few))
 
 -- one symbol more of a list of windows
-pub symbol-followed : (mode : ℕ) → known mode ≡ true → (ws : List (List ℕ)) (octets : List ℕ) (h : Hand) → Sofar (radioOf mode) 127 ws octets h → h .taken < length ws
+pub symbol-followed : (mode : ℕ) → known mode ≡ true → (ws : List (List ℕ)) (octets : List ℕ) (h : Hand)
+    → Sofar (radioOf mode) 127 ws octets h → h .taken < length ws
     → (g : Hand) → g ≡ followed mode h (symbolOf (radioOf mode) (getD ws (h .taken) [])) → Ways (radioOf mode) 127 ws (keptAt mode g octets) (suc (h .taken)) g
 unfolding keptAt
 symbol-followed mode m ws octets h L next g e =
     let x = symbolOf (radioOf mode) (getD ws (h .taken) []) in
-    symbol-taken (radioOf mode) (sound mode) 127 ws octets h L next (low mode) x refl g (e ∙ followed-is mode m h x (L .goes .few)) (keptAt mode g octets) (rw m)
+    symbol-taken (radioOf mode) (sound mode) 127 ws octets h L next (low mode) x
+    refl g (e ∙ followed-is mode m h x (L .goes .few)) (keptAt mode g octets) (rw m)
 
 -- a byte above 1 in a window
 pub bad-byte : (chips : List ℕ) (at size k : ℕ) → k < size → 1 < getD chips (at + k) 0 → bad (take size (drop at chips)) ≡ true
@@ -77,10 +80,12 @@ module _ (mode : ℕ) (m : known mode ≡ true) (room : ℕ) (chips : List ℕ) 
       whole : at + radioOf mode .size ≤ length chips
       whole = let w : at + size ≤ length chips = omega (arith, L .upto) in rw is at w
 
-      pub stops-bad : bad (take size (drop at chips)) ≡ true → (g : Hand) → g ≡ stopped NOCHIP h → Tells (radioOf mode) room (reading (radioOf mode) room chips) octets g
+      pub stops-bad : bad (take size (drop at chips)) ≡ true → (g : Hand)
+          → g ≡ stopped NOCHIP h → Tells (radioOf mode) room (reading (radioOf mode) room chips) octets g
       stops-bad b g q = rw q (scan-bad (radioOf mode) (sound mode) room chips octets h at L (rw is at l) (rw is at b))
 
-      module _ (words : List ℕ) (t : words ≡ tableAt mode) (x : Symbol) (ex : x ≡ matchedAt mode words chips at) (f : Hand) (ef : f ≡ followed mode h x) (g : Hand)
+      module _ (words : List ℕ) (t : words ≡ tableAt mode) (x : Symbol)
+          (ex : x ≡ matchedAt mode words chips at) (f : Hand) (ef : f ≡ followed mode h x) (g : Hand)
           (eg : g ≡ roomed room h f) (kept : List ℕ) (ek : kept ≡ keptAt mode g octets) where
         symbol-is : x ≡ symbolOf (radioOf mode) (take (radioOf mode .size) (drop at chips))
         unfolding symbolAt
@@ -89,5 +94,6 @@ module _ (mode : ℕ) (m : known mode ≡ true) (room : ℕ) (chips : List ℕ) 
         pub turns : Turning (radioOf mode) room chips kept g (at + size)
         unfolding followed keptAt
         turns =
-            let way = turned-scan (radioOf mode) (sound mode) room chips octets h at L (rw is at l) (low mode) x symbol-is g (eg ∙ ap (roomed room h) (ef ∙ rw m)) kept (ek ∙ rw m) in
+            let way = turned-scan (radioOf mode) (sound mode) room chips octets h at L
+            (rw is at l) (low mode) x symbol-is g (eg ∙ ap (roomed room h) (ef ∙ rw m)) kept (ek ∙ rw m) in
             (λ n. rw is (way .0 n), way .1)

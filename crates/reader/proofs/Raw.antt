@@ -2,7 +2,28 @@
 use mathlib.Core.Path.{_≡_, refl, sym, ap, _∙_}
 use mathlib.Core.List.{List, [], _∷_, _++_}
 use Prim.Native.Nat.{ℕ, zero, suc, _+_, _*_, _/_, _%_, _^_, _-_, _≤_, _<_}
-use native.Mathlib.Nat.{one-le-pow, pow-zero, pow-suc, pow-succ', zero-mul, suc-mul, mul-comm, mul-assoc, mul-add, div-div-eq-div-mul, add-mul-div-right, mul-div-cancel-left, div-eq-of-lt, div-one, mod-eq-of-lt, one-mul, mul-zero, mul-le-mul-right, div-lt-iff-lt-mul, eq-zero-or-pos}
+use native.Mathlib.Nat.{
+  one-le-pow,
+  pow-zero,
+  pow-suc,
+  pow-succ',
+  zero-mul,
+  suc-mul,
+  mul-comm,
+  mul-assoc,
+  mul-add,
+  div-div-eq-div-mul,
+  add-mul-div-right,
+  mul-div-cancel-left,
+  div-eq-of-lt,
+  div-one,
+  mod-eq-of-lt,
+  one-mul,
+  mul-zero,
+  mul-le-mul-right,
+  div-lt-iff-lt-mul,
+  eq-zero-or-pos,
+}
 use native.Mathlib.Omega.{arith}
 use lib.ListN.{length, getD, take, drop, length-drop, take-append-drop}
 use lib.Seq.{take-all, take-append-le, drop-append-le}
@@ -50,7 +71,8 @@ module _ (r : Radio) where
   octet-stays k bs cs h =
       let l : k * perOctet r + perOctet r ≤ length bs = omega (arith, suc-mul k (perOctet r)) in
       let d : perOctet r ≤ length (drop (k * perOctet r) bs) = rw (length-drop (k * perOctet r) bs) (omega arith) in
-      ap (valueOf (2 ^ r .bits)) (ap (take (perOctet r)) (drop-append-le (k * perOctet r) bs cs (omega arith)) ∙ take-append-le (perOctet r) (drop (k * perOctet r) bs) cs d)
+      ap (valueOf (2 ^ r .bits)) (ap (take (perOctet r)) (drop-append-le (k * perOctet r) bs cs (omega arith))
+      ∙ take-append-le (perOctet r) (drop (k * perOctet r) bs) cs d)
 
   pub octets-long : (k n : ℕ) (bs : List ℕ) → length (octetsFrom r k n bs) ≡ n
   unfolding octetsFrom
@@ -116,7 +138,8 @@ module _ (r : Radio) (S : Sound r) where
       div-lt-iff-lt-mul {k = 2 ^ r .bits} {x = o % 256} {y = w} (pow-pos (r .bits)) .1 (omega (arith, t .0, mul-comm w (2 ^ r .bits))) in
       rw (t .1) (omega (arith, t .0, suc-mul b w, mul-le-mul-right w h))
 
-  -- k raw symbols, with j still to come: what was in hand has moved down by k, and they stand above it
+  -- k raw symbols, with j still to come: what was in hand has moved down by k, and they stand above
+  -- it
   shifts-value : (cs : List ℕ) (o j : ℕ) → o < 256 → length cs + j ≡ perOctet r → Below (2 ^ r .bits) cs
       → shifts r o cs ≡ o / (2 ^ r .bits) ^ length cs + (2 ^ r .bits) ^ j * valueOf (2 ^ r .bits) cs
   unfolding valueOf
@@ -155,7 +178,8 @@ module _ (r : Radio) (S : Sound r) where
       let h : o < 256 = shifts-below (take q bs) 0 (omega arith) (below-take (2 ^ r .bits) q bs b) in
       let c = below-drop (2 ^ r .bits) q bs b in
       let t : take (perOctet r) (drop q bs) ≡ drop q bs = take-all (perOctet r) (drop q bs) (omega arith) in
-      let v : shifts r 0 bs ≡ octetAt r k bs = ap (shifts r 0) (sym two) ∙ shifts-append r 0 (take q bs) (drop q bs) ∙ shifts-octet (drop q bs) o h l c ∙ ap (valueOf (2 ^ r .bits)) (sym t) in
+      let v : shifts r 0 bs ≡ octetAt r k bs = ap (shifts r 0) (sym two) ∙ shifts-append r 0 (take q bs) (drop q bs)
+      ∙ shifts-octet (drop q bs) o h l c ∙ ap (valueOf (2 ^ r .bits)) (sym t) in
       (v, rw (← v) (shifts-below bs 0 (omega arith) b))
 
   -- a symbol has a bit

@@ -1,4 +1,5 @@
--- Rules 4 to 6: which number they give, what they look at, and that nothing is wrong where they give none. Assumes nothing.
+-- Rules 4 to 6: which number they give, what they look at, and that nothing is wrong where they
+-- give none. Assumes nothing.
 use mathlib.Core.Path.{_≡_, refl, sym, _∙_}
 use mathlib.Core.Bool.{Bool, true, false, not}
 use mathlib.Core.Logic.{_⊎_, inl, inr}
@@ -81,7 +82,8 @@ both-true : (a b : Bool) → both a b ≡ true → b ≡ true
 both-true true b e = e
 both-true false b e = not-both false e refl
 
--- The reader's test of room, after the rules with room for every report, is the rules with its room.
+-- The reader's test of room, after the rules with room for every report, is the rules with its
+-- room.
 module _ (per room s raw o n d v : ℕ) (h : Hand) (l : h .length ≤ room) (m : ends per 5 s ≡ false → n ≤ room) where
   abbrev next : ℕ → Hand
   next x = onward x (moved h x n d v o) (stopped x h)
@@ -100,7 +102,8 @@ module _ (per room s raw o n d v : ℕ) (h : Hand) (l : h .length ≤ room) (m :
       (λ a. by-test (both (ends per 4 s) (not (eqb o startOctet))) (λ b. rw (a, b) (kept BADSTART))
       (λ b. by-test (both (ends per 5 s) (ltb 127 n)) (λ c. rw (a, b, c) (kept RESERVED))
       (λ c. by-test (both (ends per 5 s) (ltb room n))
-      (λ e. by-test (ends per (5 + n) s) (λ f. rw (a, b, c, e, f, both-true (ends per 5 s) (ltb room n) e)) (λ f. rw (a, b, c, e, f, both-true (ends per 5 s) (ltb room n) e)))
+      (λ e. by-test (ends per (5 + n) s) (λ f. rw (a, b, c, e, f, both-true (ends per 5 s) (ltb room n) e))
+      (λ f. rw (a, b, c, e, f, both-true (ends per 5 s) (ltb room n) e)))
       (λ e. by-test (ends per (5 + n) s) (λ f. rw (a, b, c, e, f, le-ltb room n (fits e))) (λ f. rw (a, b, c, e, f, le-ltb room n (fits e)))))))
 
 -- nothing is wrong at symbol s
@@ -135,7 +138,8 @@ module _ (per room s raw start n : ℕ) where
   pub rules-clear : (x : ℕ) → (x ≡ MORE) ⊎ (x ≡ DONE) → rules per room s raw start n ≡ x → Clear per room s raw start n
   unfolding rules
   rules-clear x g e =
-      go (both (ltb s (4 * per)) (not (eqb raw 0))) refl (both (ends per 4 s) (not (eqb start startOctet))) refl (both (ends per 5 s) (ltb 127 n)) refl (both (ends per 5 s) (ltb room n)) refl e
+      go (both (ltb s (4 * per)) (not (eqb raw 0))) refl (both (ends per 4 s) (not (eqb start startOctet)))
+      refl (both (ends per 5 s) (ltb 127 n)) refl (both (ends per 5 s) (ltb room n)) refl e
     where
       go : (a : Bool) → both (ltb s (4 * per)) (not (eqb raw 0)) ≡ a → (b : Bool) → both (ends per 4 s) (not (eqb start startOctet)) ≡ b
           → (c : Bool) → both (ends per 5 s) (ltb 127 n) ≡ c → (d : Bool) → both (ends per 5 s) (ltb room n) ≡ d

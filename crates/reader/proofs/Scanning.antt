@@ -1,5 +1,5 @@
--- How far the reader's loop has come in a chip buffer, over plain values: so far in the buffer's windows, at the place of the next one.
--- Assumes nothing.
+-- How far the reader's loop has come in a chip buffer, over plain values: so far in the buffer's
+-- windows, at the place of the next one. Assumes nothing.
 use mathlib.Core.Path.{_≡_, sym, ap, _∙_}
 use mathlib.Core.Bool.{true}
 use mathlib.Core.List.{List, []}

@@ -1,5 +1,6 @@
--- The promises settle what they speak of: two outcomes that satisfy one are equal. Those of `read`, `keep` and `store` settle every byte
--- of the lent buffer at exit; each speaks of the function's own contract, as `Settles` does. Assumes nothing.
+-- The promises settle what they speak of: two outcomes that satisfy one are equal. Those of `read`,
+-- `keep` and `store` settle every byte of the lent buffer at exit; each speaks of the function's
+-- own contract, as `Settles` does. Assumes nothing.
 use mathlib.Core.Path.{_≡_}
 use contract.Lifetimes.{Lfts}
 use denote.Ref.{now}

@@ -1,6 +1,7 @@
--- How far a reading has come, over any list of windows and plain values: the hand carries the symbols seen, and what is still to be
--- read is the reading's answer. A law for the start, one symbol more, and each of the ends: the reader's loop and the stepping
--- receiver both go by them. Assumes nothing.
+-- How far a reading has come, over any list of windows and plain values: the hand carries the
+-- symbols seen, and what is still to be read is the reading's answer. A law for the start, one
+-- symbol more, and each of the ends: the reader's loop and the stepping receiver both go by them.
+-- Assumes nothing.
 use mathlib.Core.Path.{_≡_, refl, sym, ap, _∙_, subst}
 use mathlib.Core.Bool.{true}
 use mathlib.Core.List.{List, [], _∷_, _++_}
@@ -138,9 +139,12 @@ module _ (r : Radio) (S : Sound r) (room : ℕ) (ws : List (List ℕ)) (octets :
           let t = o .carries .taken in
           let e : (6 + g .length) * perOctet r ≤ length after = omega (arith, o .all .total) in
           let n : g .length ≡ octetAt r 5 bits = o .carries .late (omega (arith, mul-le-mul-right (perOctet r) (le-add-right 6 (g .length)))) in
-          let s : take (g .length) kept ≡ reportIn r bits = gathered-report r S after kept (g .length) (gathers (inr (o .number)) (o .carries)) long-kept (o .all .few) e ∙ ap (λ (j : ℕ). octetsFrom r 6 j bits) n in
+          let s : take (g .length) kept ≡ reportIn r bits =
+          gathered-report r S after kept (g .length) (gathers (inr (o .number)) (o .carries)) long-kept (o .all .few) e
+          ∙ ap (λ (j : ℕ). octetsFrom r 6 j bits) n in
           record {
-            is = step ∙ o .same (rest r ws room (suc (h .taken))) ∙ done-same (sym (t ∙ a)) (sym s) (sym (o .carries .count)) ∙ sym (handed-done g kept (o .number));
+            is = step ∙ o .same (rest r ws room (suc (h .taken)))
+                ∙ done-same (sym (t ∙ a)) (sym s) (sym (o .carries .count)) ∙ sym (handed-done g kept (o .number));
             well = λ d. o .all;
             long = long-kept;
           }

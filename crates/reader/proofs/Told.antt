@@ -1,4 +1,5 @@
--- The reader's two ways, no radio, or what the scan found, told and stored; and the ways of `store`. Over plain values. Assumes nothing.
+-- The reader's two ways, no radio, or what the scan found, told and stored; and the ways of
+-- `store`. Over plain values. Assumes nothing.
 use mathlib.Core.Path.{_≡_, sym, ap, ap₂, _∙_}
 use mathlib.Core.Bool.{true, false}
 use mathlib.Core.List.{List, _++_}
@@ -53,7 +54,8 @@ stored-done place n count octets buffer f l b =
 
 -- what a hand tells, and the reading order's answer with the octets gathered: a refusal, or done
 handed-ways : (h : Hand) (octets : List ℕ) (P : Reading → Answer → Type 0) → ((x s : ℕ) → P (told (refused x s)) (refused x s))
-    → (h .number ≡ DONE → P (record { number = DONE; place = h .taken; n = h .length; count = h .count }) (done (h .taken) (take (h .length) octets) (h .count)))
+    → (h .number ≡ DONE → P (record { number = DONE; place = h .taken; n = h .length; count = h .count })
+    (done (h .taken) (take (h .length) octets) (h .count)))
     → P (toldBy h) (handed h octets)
 unfolding toldBy handed
 handed-ways h octets P n d =

@@ -1,5 +1,6 @@
--- One symbol taken, a turn of the reader's loop or a push, over plain values: a hand that carries the symbols before, and a symbol, give a hand that carries
--- one more, or the reading's answer. Assumes nothing.
+-- One symbol taken, a turn of the reader's loop or a push, over plain values: a hand that carries
+-- the symbols before, and a symbol, give a hand that carries one more, or the reading's answer.
+-- Assumes nothing.
 use mathlib.Core.Path.{_≡_, refl, sym, ap, _∙_, subst}
 use mathlib.Core.List.{List, [], _∷_, _++_}
 use mathlib.Core.Logic.{_⊎_, inl, inr}
@@ -27,7 +28,8 @@ use Rattle.reader.proofs.Rules.{Clear, rules-clear, rules-last, rules-b
 use Rattle.reader.proofs.Steps.{goes, stops}
 use Rattle.reader.proofs.Carried.{Carries, verdict-is, carries-more}
 
--- the hand wants more: it is before the end of its frame, whose report has room; so its numbers are small
+-- the hand wants more: it is before the end of its frame, whose report has room; so its numbers are
+-- small
 pub record Open (r : Radio) (room : ℕ) (h : Hand) : Type 0 where
   pub number : h .number ≡ MORE
   pub under : h .taken < (6 + h .length) * perOctet r
@@ -58,7 +60,8 @@ module _ (r : Radio) (room : ℕ) (before : List Symbol) (x : Symbol) (g : Hand)
     pub number : g .number ≡ DONE
     pub carries : Carries r (before ++ x ∷ []) g
     pub all : Complete r room g
-    pub same : (next : Answer) → taking r room before x next ≡ done (suc (length before)) (reportIn r (received r (values (before ++ x ∷ [])))) (repaired (before ++ x ∷ []))
+    pub same : (next : Answer) → taking r room before x next ≡ done (suc (length before))
+        (reportIn r (received r (values (before ++ x ∷ [])))) (repaired (before ++ x ∷ []))
 
   -- refused
   pub record Off : Type 0 where
@@ -79,7 +82,8 @@ room-for-any r h x f =
     let raw = rawFrom r (h .last) (x .value) in
     let octet = shifted r (h .octet) raw in
     by-test (eqb (x .number) DONE)
-    (λ a. rw a (rules-room (perOctet r) 127 (h .taken) raw octet (lengthAfter (perOctet r) (h .taken) (h .length) octet) (x .distance) (x .value) h f (λ e. rw e f)))
+    (λ a. rw a (rules-room (perOctet r) 127 (h .taken) raw octet
+    (lengthAfter (perOctet r) (h .taken) (h .length) octet) (x .distance) (x .value) h f (λ e. rw e f)))
     (λ a. rw (a, le-ltb 127 (h .length) f))
 
 -- no symbol is answered 13
@@ -87,7 +91,8 @@ symbol-number : (r : Radio) (w : List ℕ) → symbolOf r w .number ≡ MORE →
 unfolding symbolOf valued
 symbol-number r w e =
     by-test (bad w) (λ a. omega (arith, rw a at e))
-    (λ a. by-test (ltb (first (within r w) 0 (length (r .words))) (length (r .words))) (λ b. omega (arith, rw (a, b) at e)) (λ b. omega (arith, rw (a, b) at e)))
+    (λ a. by-test (ltb (first (within r w) 0 (length (r .words))) (length (r .words)))
+    (λ b. omega (arith, rw (a, b) at e)) (λ b. omega (arith, rw (a, b) at e)))
 
 module _ (r : Radio) (S : Sound r) (low : r .limit ≤ 255) (room : ℕ) (before : List Symbol) (h : Hand) (C : Carries r before h) (O : Open r room h) where
   -- symbols before the end of the longest frame
@@ -200,7 +205,8 @@ module _ (r : Radio) (S : Sound r) (low : r .limit ≤ 255) (room : ℕ) (before
         inr (inr (rw (e, found-hand, stops found (moved h found n d v octet) (stopped found h) p q) (off p q)))))
 
   -- a symbol that is refused ends the reading
-  refused-turned : (x : Symbol) → (x .number ≡ MORE → ⊥) → (x .number ≡ DONE → ⊥) → (g : Hand) → g ≡ roomed room h (stopped (x .number) h) → Turned r room before x g
+  refused-turned : (x : Symbol) → (x .number ≡ MORE → ⊥) → (x .number ≡ DONE → ⊥)
+      → (g : Hand) → g ≡ roomed room h (stopped (x .number) h) → Turned r room before x g
   unfolding taking
   refused-turned x a b g e =
       inr (inr (rw (e, le-ltb room (h .length) (O .fits)) (record { more = a; over = b; taken = C .taken; same = λ next. rw (ne-eqb (x .number) DONE b) })))
@@ -211,7 +217,8 @@ module _ (r : Radio) (S : Sound r) (low : r .limit ≤ 255) (room : ℕ) (before
   next-hand w x i g e =
       by-test (eqb (x .number) DONE)
       (λ a.
-      let q : x ≡ reads (x .value) (x .distance) = ap (λ (n : ℕ). record { number = n; value = x .value; distance = x .distance }) (eqb-true (x .number) DONE a) in
+      let q : x ≡ reads (x .value) (x .distance) =
+      ap (λ (n : ℕ). record { number = n; value = x .value; distance = x .distance }) (eqb-true (x .number) DONE a) in
       let t = of-symbol r w (x .value) (x .distance) (sym i ∙ q) in
       subst (λ (y : Symbol). Turned r room before y g) (sym q) (value-turned (x .value) (x .distance) (rw (S .many) at (t .known)) (t .near) g (rw a at e)))
       (λ a. refused-turned x (λ m. symbol-number r w (ap (λ (y : Symbol). y .number) (sym i) ∙ m)) (eqb-false (x .number) DONE a) g (rw a at e))

@@ -1,4 +1,5 @@
--- The windows of a buffer, the symbols in them, and the reading of windows one symbol at a time. For any radio. Assumes nothing.
+-- The windows of a buffer, the symbols in them, and the reading of windows one symbol at a time.
+-- For any radio. Assumes nothing.
 use mathlib.Core.Path.{_≡_, refl, sym, ap, _∙_}
 use mathlib.Core.List.{List, [], _∷_, _++_, map}
 use Prim.Native.Nat.{ℕ, zero, suc, _+_, _-_, _*_, _/_, _≤_, _<_}

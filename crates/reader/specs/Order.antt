@@ -1,6 +1,6 @@
--- The reading order (document 01, "Reading order"), for any radio. Whatever it needs at a symbol it reads off the symbols up to
--- it, so it has no state. Rule 1 is the first line of `readingFrom`, rules 2 and 3 are `symbolOf`, rules 4 to 6 `rules`; `taking`
--- puts them in order.
+-- The reading order (document 01, "Reading order"), for any radio. Whatever it needs at a symbol it
+-- reads off the symbols up to it, so it has no state. Rule 1 is the first line of `readingFrom`,
+-- rules 2 and 3 are `symbolOf`, rules 4 to 6 `rules`; `taking` puts them in order.
 use Prim.Native.Nat.{ℕ, zero, suc, _+_, _*_, _/_}
 use mathlib.Core.Bool.{Bool, false, not}
 use mathlib.Core.List.{List, [], _∷_, _++_, map}
@@ -14,7 +14,8 @@ use Rattle.codes.specs.declared.Symbol.{Symbol}
 use Rattle.frame.specs.Frame.{startOctet, perOctet}
 use Rattle.reader.specs.Received.{received, octetAt, octetsFrom}
 
--- refused with a number at a place; or done at a place, with the report and the number of chips repaired
+-- refused with a number at a place; or done at a place, with the report and the number of chips
+-- repaired
 pub data Answer : Type 0 where
   refused : ℕ → ℕ → Answer
   done : ℕ → List ℕ → ℕ → Answer
@@ -44,8 +45,8 @@ ends per k s = eqb (suc s) (suc k * per)
 -- 4. In the preamble, a raw bit or symbol that isn't 0: 7.
 -- 5. On the last symbol of the start octet, an octet other than 0xA7: 8.
 -- 6. On the last symbol of the length octet, top bit 1: 9; then a report buffer shorter than n: 3.
--- After the last symbol of the report (or of the length octet where n is 0) the reading has succeeded; before it, more is
--- wanted.
+-- After the last symbol of the report (or of the length octet where n is 0) the reading has
+-- succeeded; before it, more is wanted.
 unfoldable pub rules : ℕ → ℕ → ℕ → ℕ → ℕ → ℕ → ℕ
 rules per room s raw start n =
     pick (both (ltb s (4 * per)) (not (eqb raw 0))) PREAMBLE
@@ -63,7 +64,8 @@ unfoldable pub repaired : List Symbol → ℕ
 repaired [] = 0
 repaired (x ∷ xs) = x .distance + repaired xs
 
--- the rules at symbol s, over the raw symbols up to and with it. Octets 4 and 5 of a frame are its start octet and its length octet.
+-- the rules at symbol s, over the raw symbols up to and with it. Octets 4 and 5 of a frame are its
+-- start octet and its length octet.
 abbrev pub verdict : Radio → ℕ → ℕ → List ℕ → ℕ
 verdict r room s bs = rules (perOctet r) room s (getD bs s 0) (octetAt r 4 bs) (octetAt r 5 bs)
 
@@ -71,13 +73,15 @@ verdict r room s bs = rules (perOctet r) room s (getD bs s 0) (octetAt r 4 bs) (
 abbrev pub reportIn : Radio → List ℕ → List ℕ
 reportIn r bs = octetsFrom r 6 (octetAt r 5 bs) bs
 
--- what number x means after the symbols `read`, of which the last is in hand: the next one, or the end
+-- what number x means after the symbols `read`, of which the last is in hand: the next one, or the
+-- end
 unfoldable pub concluded : Radio → ℕ → List Symbol → ℕ → Answer → Answer
 concluded r s read x next =
     pick (eqb x MORE) next (pick (eqb x DONE) (done (suc s) (reportIn r (received r (values read))) (repaired read)) (refused x s))
 
--- The symbol x in hand, after those before it; `next` is the reading of the symbols after it. The first thing found wrong ends
--- the reading, at the number of the symbol in hand: what its chips say (rules 2 and 3), then rules 4 to 6.
+-- The symbol x in hand, after those before it; `next` is the reading of the symbols after it. The
+-- first thing found wrong ends the reading, at the number of the symbol in hand: what its chips say
+-- (rules 2 and 3), then rules 4 to 6.
 unfoldable pub taking : Radio → ℕ → List Symbol → Symbol → Answer → Answer
 taking r room before x next =
     pick (eqb (x .number) DONE)

@@ -9,13 +9,14 @@ use Rattle.frame.specs.Outcome.{Outcome, outcome}
 use Rattle.reader.specs.declared.Reading.{Reading}
 use Rattle.reader.specs.Order.{Answer, refused, done, reading}
 
--- Done: place is the number of symbols in the frame, n is the length, the count is the number of chips repaired. Refused:
--- place as in the reading order, n and count 0.
+-- Done: place is the number of symbols in the frame, n is the length, the count is the number of
+-- chips repaired. Refused: place as in the reading order, n and count 0.
 unfoldable pub told : Answer → Reading
 told (refused x place) = record { number = x; place = place; n = 0; count = 0 }
 told (done place report count) = record { number = DONE; place = place; n = length report; count = count }
 
--- Done: the first n bytes of the report buffer are the report, later ones keep their values. Refused: report buffer unchanged.
+-- Done: the first n bytes of the report buffer are the report, later ones keep their values.
+-- Refused: report buffer unchanged.
 unfoldable pub left : Answer → List ℕ → List ℕ
 left (refused x place) buffer = buffer
 left (done place report count) buffer = report ++ drop (length report) buffer

@@ -1,4 +1,5 @@
--- The values of the symbols read, taken back to raw symbols and octets (document 01, "The two radios"), for any radio.
+-- The values of the symbols read, taken back to raw symbols and octets (document 01, "The two
+-- radios"), for any radio.
 use Prim.Native.Nat.{ℕ, zero, suc, _+_, _*_, _%_, _^_}
 use mathlib.Core.List.{List, [], _∷_}
 use lib.ListN.{take, drop}
@@ -6,7 +7,8 @@ use Rattle.codes.specs.Chips.{pick}
 use Rattle.codes.specs.Radio.{Radio}
 use Rattle.frame.specs.Frame.{perOctet}
 
--- The reader takes the sum of each encoded bit and the one before it (mode 0). Without a chain a symbol's value is the raw one.
+-- The reader takes the sum of each encoded bit and the one before it (mode 0). Without a chain a
+-- symbol's value is the raw one.
 abbrev pub rawAfter : Radio → ℕ → ℕ → ℕ
 rawAfter r last v = pick (r .chained) ((last + v) % 2) v
 

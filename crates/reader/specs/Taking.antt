@@ -1,7 +1,8 @@
--- Not to be believed: what the code carries from symbol to symbol, a record of numbers. That the numbers are those of the symbols
--- before is shown in proofs/Carried.antt, that following them is the reading order in proofs/Turns.antt and
--- proofs/Sofar.antt. It is total: whatever the numbers are, they are reduced or wrap, and no sum overflows. The stepping receiver's push
--- names `followed` and `keptAt`: of a forged record that passes its test they are all that is said.
+-- Not to be believed: what the code carries from symbol to symbol, a record of numbers. That the
+-- numbers are those of the symbols before is shown in proofs/Carried.antt, that following them is
+-- the reading order in proofs/Turns.antt and proofs/Sofar.antt. It is total: whatever the numbers
+-- are, they are reduced or wrap, and no sum overflows. The stepping receiver's push names
+-- `followed` and `keptAt`: of a forged record that passes its test they are all that is said.
 use mathlib.Core.Path.{_≡_}
 use Prim.Native.Nat.{ℕ, _+_, _-_, _*_, _/_, _%_, _^_, _≤_}
 use mathlib.Core.List.{List}
@@ -52,7 +53,8 @@ onward x a b = pick (eqb x MORE) a (pick (eqb x DONE) a b)
 -- moved or stopped, by the rules with room for every report
 abbrev pub byRules : ℕ → Hand → ℕ → ℕ → ℕ → ℕ → ℕ → Hand
 byRules per h raw octet n d v =
-    onward (rules per 127 (h .taken) raw octet n) (moved h (rules per 127 (h .taken) raw octet n) n d v octet) (stopped (rules per 127 (h .taken) raw octet n) h)
+    onward (rules per 127 (h .taken) raw octet n) (moved h (rules per 127 (h .taken) raw octet n) n d v octet)
+    (stopped (rules per 127 (h .taken) raw octet n) h)
 
 -- the same, over the raw symbol alone
 abbrev pub shiftedBy : Radio → Hand → ℕ → ℕ → ℕ → Hand
@@ -85,7 +87,8 @@ keptIn per h octets =
 unfoldable pub keptAt : ℕ → Hand → List ℕ → List ℕ
 keptAt mode h octets = pick (known mode) (onward (h .number) (keptIn (perOctet (radioOf mode)) h octets) octets) octets
 
--- the first n octets over the first n bytes of a buffer, as it was where there are not so many of both
+-- the first n octets over the first n bytes of a buffer, as it was where there are not so many of
+-- both
 unfoldable pub storedIn : ℕ → List ℕ → List ℕ → List ℕ
 storedIn n octets buffer = pick (ltb 127 n) buffer (pick (ltb (length buffer) n) buffer (paste buffer 0 octets n))
 
@@ -102,7 +105,8 @@ handed h octets =
     pick (eqb (h .number) MORE) (refused RUNOUT (h .taken))
     (pick (eqb (h .number) DONE) (done (h .taken) (take (h .length) octets) (h .count)) (refused (h .number) (h .taken)))
 
--- all symbols of the hand's frame are taken, its report has room, and no more chips were repaired than the limit times the symbols taken
+-- all symbols of the hand's frame are taken, its report has room, and no more chips were repaired
+-- than the limit times the symbols taken
 pub record Complete (r : Radio) (room : ℕ) (h : Hand) : Type 0 where
   pub total : h .taken ≡ (6 + h .length) * perOctet r
   pub fits : h .length ≤ room

@@ -1,6 +1,7 @@
-// The reader: a chip buffer to the report or a numbered refusal, by the reading order. A loop over symbols around a loop over
-// chips; between symbols it carries a few numbers, the hand, which are those of the symbols before (proofs/Carried.antt), so that
-// what is still to be read stays the whole reading's answer (proofs/Sofar.antt, proofs/Scanning.antt).
+// The reader: a chip buffer to the report or a numbered refusal, by the reading order. A loop over
+// symbols around a loop over chips; between symbols it carries a few numbers, the hand, which are
+// those of the symbols before (proofs/Carried.antt), so that what is still to be read stays the
+// whole reading's answer (proofs/Sofar.antt, proofs/Scanning.antt).
 ghost use mathlib.Core.Path.{_≡_};
 ghost use mathlib.Core.Bool.{true};
 ghost use Prim.Native.Nat.{_≤_, _<_};
@@ -11,8 +12,8 @@ ghost use Rattle.reader.specs.Order.{refused, rules, reading};
 ghost use Rattle.reader.specs.Read.{told, readOf};
 ghost use Rattle.reader.specs.Taking.{begun, stopped, rawFrom, shifted, lengthAfter, moved, onward, followed, roomed, storedIn, keptAt, toldBy, Tells};
 
-// What the reader gives back: 0, the number of symbols in the frame, the report's length and the number of chips repaired; or a
-// refusal, the number of the symbol where it stands, 0 and 0.
+// What the reader gives back: 0, the number of symbols in the frame, the report's length and the
+// number of chips repaired; or a refusal, the number of the symbol where it stands, 0 and 0.
 #[repr(C)]
 pub struct Reading {
     pub number: u32,
@@ -21,8 +22,8 @@ pub struct Reading {
     pub count: u32,
 }
 
-// What is carried from symbol to symbol: 13 while more is wanted, else 0 or the refusal; symbols taken; n once it is read, 0
-// before; chips repaired; the last symbol's value; the octet in hand.
+// What is carried from symbol to symbol: 13 while more is wanted, else 0 or the refusal; symbols
+// taken; n once it is read, 0 before; chips repaired; the last symbol's value; the octet in hand.
 pub struct Hand {
     pub number: u32,
     pub taken: u32,
@@ -32,8 +33,8 @@ pub struct Hand {
     pub octet: u32,
 }
 
-// Reads the frame of the mode's radio that the chips begin with, and stores its report. The octets gather aside and are stored
-// once: n is 0 on a refusal, so then nothing is.
+// Reads the frame of the mode's radio that the chips begin with, and stores its report. The octets
+// gather aside and are stored once: n is 0 on a refusal, so then nothing is.
 pub fn read(mode: u32, chips: &[u8], report: &mut [u8]) -> Reading
     ensures { λ r. ⌜ outcome r (now (report .exit)) ≡ readOf mode (now (chips .entry)) (now (report .entry)) ⌝ }
 {
@@ -47,9 +48,11 @@ pub fn read(mode: u32, chips: &[u8], report: &mut [u8]) -> Reading
     answer
 }
 
-// The reading order over the buffer. Matching tests a symbol's bytes without an exit, so that nothing keeps the back end from looking at
-// many at a time; only where one is no chip does the loop over chips run, which then leaves at it. That answers what `follow` would
-// answer too: the loop is the document's form for this place. A refusal leaves the loops with the hand's number and place. `keep` stands before the last test, so that the frame's last octet is kept too.
+// The reading order over the buffer. Matching tests a symbol's bytes without an exit, so that
+// nothing keeps the back end from looking at many at a time; only where one is no chip does the
+// loop over chips run, which then leaves at it. That answers what `follow` would answer too: the
+// loop is the document's form for this place. A refusal leaves the loops with the hand's number and
+// place. `keep` stands before the last test, so that the frame's last octet is kept too.
 fn scan(mode: u32, chips: &[u8], room: usize, octets: &mut [u8; 127]) -> Hand
     requires { ⌜ (known mode ≡ true) × (length (now octets) ≡ 127) ⌝ }
     ensures { λ r. ⌜ Tells (radioOf mode) room (reading (radioOf mode) room (now (chips .entry))) (now (octets .exit)) r ⌝ }
@@ -109,9 +112,10 @@ fn stop(number: u32, hand: Hand) -> Hand
     }
 }
 
-// What follows a match, at the symbol after those taken: 1, the symbol's own number where it isn't 0, then 7, 8 and 9; 0 where the
-// frame is complete, 13 where more is wanted. A refusal leaves the other numbers as they were. The hand and the symbol may hold
-// anything: hence what is reduced or wraps below.
+// What follows a match, at the symbol after those taken: 1, the symbol's own number where it isn't
+// 0, then 7, 8 and 9; 0 where the frame is complete, 13 where more is wanted. A refusal leaves the
+// other numbers as they were. The hand and the symbol may hold anything: hence what is reduced or
+// wraps below.
 pub fn follow(mode: u32, hand: Hand, symbol: codes::Symbol) -> Hand
     ensures { λ r. ⌜ r ≡ followed mode hand symbol ⌝ }
 {
@@ -182,7 +186,8 @@ fn length_after(per: usize, taken: u32, length: u32, octet: u32) -> u32
     }
 }
 
-// Rules 4 to 6 with room for every report: 7, 8, 9, then 0 on the last symbol of the frame, else 13.
+// Rules 4 to 6 with room for every report: 7, 8, 9, then 0 on the last symbol of the frame, else
+// 13.
 fn rule(per: usize, taken: u32, raw: u32, octet: u32, n: u32) -> u32
     requires { ⌜ per ≤ 8 ⌝ }
     ensures { λ r. ⌜ r ≡ rules per 127 taken raw octet n ⌝ }
@@ -213,8 +218,9 @@ fn with_room(room: usize, hand: Hand, next: Hand) -> Hand
     next
 }
 
-// Keeps the octet in hand where it is whole and one of the report's; after a refusal, which took no symbol, none. The hand may hold
-// anything: hence the tests of the mode and of k, which no reading fails, and the octet reduced.
+// Keeps the octet in hand where it is whole and one of the report's; after a refusal, which took no
+// symbol, none. The hand may hold anything: hence the tests of the mode and of k, which no reading
+// fails, and the octet reduced.
 pub fn keep(mode: u32, hand: Hand, octets: &mut [u8; 127])
     ensures { λ _. ⌜ now (octets .exit) ≡ keptAt mode hand (now (octets .entry)) ⌝ }
 {

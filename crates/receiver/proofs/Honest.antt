@@ -1,4 +1,5 @@
--- The test of the record: what the reader carries while it wants more, and when its frame is complete, passes it. Assumes nothing.
+-- The test of the record: what the reader carries while it wants more, and when its frame is
+-- complete, passes it. Assumes nothing.
 use mathlib.Core.Path.{_≡_}
 use mathlib.Core.Bool.{true, false}
 use Prim.Native.Nat.{_*_}
@@ -17,10 +18,23 @@ module _ (c : Receiver) where
     pub open-honest : Open (radioOf (c .mode)) 127 (handOf c) → forged c ≡ false
     unfolding forged
     open-honest O =
-        rw (eq-eqb (c .ended) MORE (O .number), k, le-ltb 127 (c .length) (O .few), le-ltb (radioOf (c .mode) .limit * c .taken) (c .count) (O .low), lt-ltb (c .taken) (total c) (O .under))
+        rw (
+          eq-eqb (c .ended) MORE (O .number),
+          k,
+          le-ltb 127 (c .length) (O .few),
+          le-ltb (radioOf (c .mode) .limit * c .taken) (c .count) (O .low),
+          lt-ltb (c .taken) (total c) (O .under),
+        )
 
     -- one that ended well
     pub complete-honest : c .ended ≡ DONE → Complete (radioOf (c .mode)) 127 (handOf c) → forged c ≡ false
     unfolding forged
     complete-honest d C =
-        rw (ne-eqb (c .ended) MORE (λ m. omega arith), eq-eqb (c .ended) DONE d, k, le-ltb 127 (c .length) (C .few), le-ltb (radioOf (c .mode) .limit * c .taken) (c .count) (C .low), eq-eqb (c .taken) (total c) (C .total))
+        rw (
+          ne-eqb (c .ended) MORE (λ m. omega arith),
+          eq-eqb (c .ended) DONE d,
+          k,
+          le-ltb 127 (c .length) (C .few),
+          le-ltb (radioOf (c .mode) .limit * c .taken) (c .count) (C .low),
+          eq-eqb (c .taken) (total c) (C .total),
+        )

@@ -1,5 +1,6 @@
--- The windows of a buffer pushed one by one: while the record is open it is as far in the reading as the reader would be, and when it
--- has ended take gives the reading's answer. A law for start, push, finish and the end. Assumes nothing.
+-- The windows of a buffer pushed one by one: while the record is open it is as far in the reading
+-- as the reader would be, and when it has ended take gives the reading's answer. A law for start,
+-- push, finish and the end. Assumes nothing.
 use mathlib.Core.Path.{_≡_, refl, sym, ap, _∙_}
 use mathlib.Core.Bool.{true, false}
 use mathlib.Core.List.{List, []}
@@ -74,7 +75,8 @@ module _ (mode : ℕ) (k : known mode ≡ true) (ws : List (List ℕ)) where
         rw (honest, eq-eqb (c .ended) MORE going-open)
         (told-gone (endedWith RUNOUT c) (G .own) (λ m. omega arith)
         (record {
-          is = T .is ∙ handed-open (handOf c) (c .octets) going-open ∙ sym (handed-refused (handOf (endedWith RUNOUT c)) (c .octets) (λ m. omega arith) (λ d. omega arith));
+          is = T .is ∙ handed-open (handOf c) (c .octets) going-open
+              ∙ sym (handed-refused (handOf (endedWith RUNOUT c)) (c .octets) (λ m. omega arith) (λ d. omega arith));
           well = λ d. absurd (omega arith);
           long = T .long;
         }))
@@ -86,7 +88,8 @@ module _ (mode : ℕ) (k : known mode ≡ true) (ws : List (List ℕ)) where
       unfolding pushOf
       push-going g e =
           let h = followed mode (handOf c) (symbolOf (radioOf mode) (getD ws (c .taken) [])) in
-          let p : g ≡ held mode h (keptAt mode h (c .octets)) = e ∙ rw (honest, eq-eqb (c .ended) MORE going-open, G .own, eq-eqb (length (getD ws (c .taken) [])) (radioOf mode .size) sized) in
+          let p : g ≡ held mode h (keptAt mode h (c .octets)) =
+          e ∙ rw (honest, eq-eqb (c .ended) MORE going-open, G .own, eq-eqb (length (getD ws (c .taken) [])) (radioOf mode .size) sized) in
           let way = symbol-followed mode k ws (c .octets) (handOf c) (G .sofar) next h refl in
           rw p (
             λ m. let w = way .0 m in (w .0, record { own = refl; sofar = w .1 }),

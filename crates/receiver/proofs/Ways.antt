@@ -26,7 +26,26 @@ use Rattle.reader.specs.Read.{told, left}
 use Rattle.reader.specs.Taking.{followed, keptAt, storedIn}
 use Rattle.reader.proofs.Told.{stored, stored-none}
 use Rattle.receiver.specs.declared.Receiver.{Receiver}
-use Rattle.receiver.specs.Record.{step, fresh, startOf, either, isOpen, endedWell, total, forged, handOf, held, withHand, tookSymbol, pushOf, endedWith, finishOf, roomFor, takes, takeOf}
+use Rattle.receiver.specs.Record.{
+  step,
+  fresh,
+  startOf,
+  either,
+  isOpen,
+  endedWell,
+  total,
+  forged,
+  handOf,
+  held,
+  withHand,
+  tookSymbol,
+  pushOf,
+  endedWith,
+  finishOf,
+  roomFor,
+  takes,
+  takeOf,
+}
 
 -- the ways of `start`
 module _ (mode : ℕ) where
@@ -100,7 +119,8 @@ module _ (c : Receiver) where
     passed-known = by-test (known (c .mode)) (λ k. k) (λ k. not-both (forged c) (sym (forged-no-radio g k)) f)
 
     pub passed-length : c .length ≤ 127
-    passed-length = by-test (ltb 127 (c .length)) (λ l. not-both (forged c) (sym (forged-long g passed-known (ltb-true 127 (c .length) l))) f) (ltb-false 127 (c .length))
+    passed-length = by-test (ltb 127 (c .length))
+        (λ l. not-both (forged c) (sym (forged-long g passed-known (ltb-true 127 (c .length) l))) f) (ltb-false 127 (c .length))
 
 -- a part that is one symbol is the symbol at its start
 whole-part : (mode : ℕ) (part : List ℕ) → known mode ≡ true → length part ≡ radioOf mode .size → symbolAt mode part 0 ≡ symbolOf (radioOf mode) part
@@ -136,7 +156,8 @@ module _ (c : Receiver) (part : List ℕ) where
           (ap (tookSymbol c) (whole-part (c .mode) part (passed-known c f (inl o)) w))
 
 -- the way of `follow`
-pub took : (c : Receiver) (x : Symbol) (h next : Hand) (octets : List ℕ) → h ≡ handOf c → next ≡ followed (c .mode) h x → octets ≡ keptAt (c .mode) next (c .octets)
+pub took : (c : Receiver) (x : Symbol) (h next : Hand) (octets : List ℕ) → h ≡ handOf c
+    → next ≡ followed (c .mode) h x → octets ≡ keptAt (c .mode) next (c .octets)
     → step (next .number) (held (c .mode) next octets) ≡ tookSymbol c x
 took c x h next octets eh en eo =
     ap (λ (l : List ℕ). step (next .number) (held (c .mode) next l)) eo

@@ -1,7 +1,8 @@
--- The stepping receiver (document 01, "The stepping receiver"): start, push, finish and take, of every record that there can be. A
--- record has what the reader carries from symbol to symbol (`Hand`) and the octets of the report. How a symbol changes those numbers
--- is the reader's own step (`followed`, `keptAt`): of every record that these calls make it is shown to be the reading order; of another one that
--- passes the test there is nothing else to say.
+-- The stepping receiver (document 01, "The stepping receiver"): start, push, finish and take, of
+-- every record that there can be. A record has what the reader carries from symbol to symbol
+-- (`Hand`) and the octets of the report. How a symbol changes those numbers is the reader's own
+-- step (`followed`, `keptAt`): of every record that these calls make it is shown to be the reading
+-- order; of another one that passes the test there is nothing else to say.
 use Prim.Native.Nat.{ℕ, _+_, _*_}
 use mathlib.Core.Bool.{Bool, true, not}
 use mathlib.Core.List.{List}
@@ -53,9 +54,9 @@ endedWell c = eqb (c .ended) DONE
 abbrev pub total : Receiver → ℕ
 total c = (6 + c .length) * perOctet (radioOf (c .mode))
 
--- One that is open or ended well is answered 34 if its mode is neither 0 nor 1, its length is above 127, its count is above the
--- accepted distance times the symbols taken, or the number of symbols taken isn't below the frame's total (open) or isn't equal to
--- it (ended well).
+-- One that is open or ended well is answered 34 if its mode is neither 0 nor 1, its length is above
+-- 127, its count is above the accepted distance times the symbols taken, or the number of symbols
+-- taken isn't below the frame's total (open) or isn't equal to it (ended well).
 unfoldable pub forged : Receiver → Bool
 forged c =
     both (either (isOpen c) (endedWell c))
@@ -79,8 +80,8 @@ held mode h octets =
 abbrev pub withHand : Receiver → Hand → Step
 withHand c h = step (h .number) (held (c .mode) h (keptAt (c .mode) h (c .octets)))
 
--- The symbol is taken by the reading order. 13 means go on. Anything else ends the record, and a refusal leaves its other fields as they
--- were.
+-- The symbol is taken by the reading order. 13 means go on. Anything else ends the record, and a
+-- refusal leaves its other fields as they were.
 abbrev pub tookSymbol : Receiver → Symbol → Step
 tookSymbol c x = withHand c (followed (c .mode) (handOf c) x)
 
@@ -99,20 +100,22 @@ abbrev pub endedWith : ℕ → Receiver → Receiver
 endedWith x c =
     record { mode = c .mode; ended = x; taken = c .taken; length = c .length; count = c .count; last = c .last; octet = c .octet; octets = c .octets }
 
--- Finish ends an open record with 4, at the number of the next symbol; on an ended one it answers 10 and the record stays the same.
+-- Finish ends an open record with 4, at the number of the next symbol; on an ended one it answers
+-- 10 and the record stays the same.
 unfoldable pub finishOf : Receiver → Step
 finishOf c =
     pick (forged c) (step FORGED c) (pick (not (isOpen c)) (step ENDED c) (step RUNOUT (endedWith RUNOUT c)))
 
 -- ---- take
 
--- 3 where the lent buffer is shorter than n, with the frame's place; otherwise 0 with place, n, count and the report.
+-- 3 where the lent buffer is shorter than n, with the frame's place; otherwise 0 with place, n,
+-- count and the report.
 unfoldable pub roomFor : ℕ → Answer → Answer
 roomFor room (refused x place) = refused x place
 roomFor room (done place report count) = pick (ltb room (length report)) (refused NOROOM place) (done place report count)
 
--- Take, on an open record: 12, with place, n and count 0. On one ended by a refusal: that number and place, n and count 0. On one
--- ended well: the report, where there is room.
+-- Take, on an open record: 12, with place, n and count 0. On one ended by a refusal: that number
+-- and place, n and count 0. On one ended well: the report, where there is room.
 unfoldable pub takes : Receiver → ℕ → Answer
 takes c room =
     pick (forged c) (refused FORGED 0)

@@ -1,6 +1,7 @@
-// The stepping receiver: the reader's reading, one symbol at a call. The record goes into each call and comes back from it; it holds up
-// to 127 octets itself. Its fields are numbers, so every bit pattern is a record, and each call says what it makes of it. A symbol is
-// taken by the reader's own functions, so the laws of the reader's loop carry over (proofs/Stepping.antt).
+// The stepping receiver: the reader's reading, one symbol at a call. The record goes into each call
+// and comes back from it; it holds up to 127 octets itself. Its fields are numbers, so every bit
+// pattern is a record, and each call says what it makes of it. A symbol is taken by the reader's
+// own functions, so the laws of the reader's loop carry over (proofs/Stepping.antt).
 ghost use mathlib.Core.Path.{_≡_};
 ghost use Rattle.frame.specs.Outcome.{outcome};
 ghost use Rattle.reader.specs.Read.{told};
@@ -45,8 +46,9 @@ impl Receiver {
         begin(mode, codes::MORE)
     }
 
-    // One symbol's chips: 34, 10 and 11 give the record back as it was. Otherwise 13 where more is wanted; anything else ends the
-    // record, 0 where the frame is complete, or a refusal, which leaves its other fields as they were.
+    // One symbol's chips: 34, 10 and 11 give the record back as it was. Otherwise 13 where more is
+    // wanted; anything else ends the record, 0 where the frame is complete, or a refusal, which
+    // leaves its other fields as they were.
     pub fn push(self, part: &[u8]) -> Step
         ensures { λ r. ⌜ r ≡ pushOf self (now (part .entry)) ⌝ }
     {
@@ -80,8 +82,8 @@ impl Receiver {
         }
     }
 
-    // What the record has come to: 34, 12, the refusal that ended it, 3 where the lent buffer is too short, or 0 and the report. n is
-    // 0 on anything but 0, so then nothing is stored.
+    // What the record has come to: 34, 12, the refusal that ended it, 3 where the lent buffer is
+    // too short, or 0 and the report. n is 0 on anything but 0, so then nothing is stored.
     pub fn take(self, report: &mut [u8]) -> reader::Reading
         ensures { λ r. ⌜ outcome r (now (report .exit)) ≡ takeOf self (now (report .entry)) ⌝ }
     {
@@ -91,8 +93,8 @@ impl Receiver {
         answer
     }
 
-    // Whether the calls make no such record: open or ended well, with numbers that no frame has. The product is of 64 bits, so it
-    // doesn't wrap.
+    // Whether the calls make no such record: open or ended well, with numbers that no frame has.
+    // The product is of 64 bits, so it doesn't wrap.
     fn forged(self) -> bool
         ensures { λ r. ⌜ r ≡ forged self ⌝ }
     {

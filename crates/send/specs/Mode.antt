@@ -8,7 +8,8 @@ use Rattle.codes.specs.Chips.{pick}
 abbrev pub none : ℕ
 none = 4294967295
 
--- the number whose first digits are m and whose others follow; a larger one than `none`, and no number, is `none`
+-- the number whose first digits are m and whose others follow; a larger one than `none`, and no
+-- number, is `none`
 unfoldable pub modeFrom : ℕ → List ℕ → ℕ
 modeFrom m [] = m
 modeFrom m (c ∷ cs) = pick (leb 48 c) (pick (leb c 57) (modeFrom (min (10 * m + (c - 48)) none) cs) none) none

@@ -1,5 +1,6 @@
-// A report to a raw capture: reads a report from standard input and writes its frame, a byte a chip, to standard output. The mode
-// is the one argument. On a refusal it writes nothing there, and the number and its meaning, one line, to standard error.
+// A report to a raw capture: reads a report from standard input and writes its frame, a byte a
+// chip, to standard output. The mode is the one argument. On a refusal it writes nothing there, and
+// the number and its meaning, one line, to standard error.
 ghost use mathlib.Core.Path.{_≡_};
 ghost use Prim.Native.Nat.{min, _≤_};
 ghost use lib.ListN.{length};
@@ -41,8 +42,8 @@ fn main() {
     }
 }
 
-// Reads until the buffer is full, the input ends or a read fails. (`io::read_full` does not tell the last two apart, and a report
-// cut short by a failed read must not be sent.)
+// Reads until the buffer is full, the input ends or a read fails. (`io::read_full` does not tell
+// the last two apart, and a report cut short by a failed read must not be sent.)
 fn read_all(buffer: &mut [u8]) -> Input
     ensures { λ r. ⌜ r .octets ≤ length (now (buffer .exit)) ⌝ }
 {

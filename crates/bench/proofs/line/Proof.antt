@@ -1,4 +1,5 @@
--- `line` meets its contract: five entries, each behind those before it (Text.antt), of what the reader promises. Assumes nothing.
+-- `line` meets its contract: five entries, each behind those before it (Text.antt), of what the
+-- reader promises. Assumes nothing.
 use mathlib.Core.Path.{ap, _∙_}
 use mathlib.Core.List.{_++_}
 use native.Mathlib.Omega.{arith}

@@ -1,4 +1,5 @@
--- `put` meets its contract: the digits are few, and the entry stands behind what was there (Text.antt). Assumes nothing.
+-- `put` meets its contract: the digits are few, and the entry stands behind what was there
+-- (Text.antt). Assumes nothing.
 use mathlib.Core.Path.{refl}
 use native.Mathlib.Omega.{arith}
 use lib.ListN.{take, length-take, length-drop}
@@ -56,7 +57,8 @@ returns c =
     let few = few-digits (s .args .n) _ (s .fits .n .fits) (d .ensures .1 .0) in (
       omega (arith, few),
       put-entry (s .args .text .now) _ _ (take (d .result) (d .last .1 .0)) _ _ (s .args .at) (d .result) (s .args .n) (s .args .after)
-          (omega (arith, s .pre)) few (d .ensures .1 .0) (d .ensures .0 .1) (d .ensures .1 .1) (c .before .before .copy .ensures .1) refl (omega (arith, few, s .pre)),
+          (omega (arith, s .pre)) few (d .ensures .1 .0) (d .ensures .0 .1)
+          (d .ensures .1 .1) (c .before .before .copy .ensures .1) refl (omega (arith, few, s .pre)),
     )
 
 pub put-spec : {M : Type 1} → statement M

@@ -1,4 +1,5 @@
--- `apart` meets its contract: fifteen chips have a function of their own, and the sum so far is the definition's, which recurses at its end. Assumes nothing.
+-- `apart` meets its contract: fifteen chips have a function of their own, and the sum so far is the
+-- definition's, which recurses at its end. Assumes nothing.
 use Prim.Native.Nat.{_-_, _≤_}
 use mathlib.Core.Path.{_≡_, refl}
 use native.Mathlib.Numerals.{add-one}

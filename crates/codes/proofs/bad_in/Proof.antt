@@ -1,4 +1,5 @@
--- `bad_in` meets its contract: fifteen chips have a function of their own, and the highest byte is above 1 just where one is. Assumes nothing.
+-- `bad_in` meets its contract: fifteen chips have a function of their own, and the highest byte is
+-- above 1 just where one is. Assumes nothing.
 use borrow.Author.Needs.{needs}
 use Rattle.codes.proofs.bad_in.Statement.{statement}
 use Rattle.codes.proofs.bad_in.Tie as tie

@@ -1,4 +1,5 @@
--- `highest` meets its contract: with each chip, the highest byte so far is above 1 just where a chip so far is no chip. Assumes nothing.
+-- `highest` meets its contract: with each chip, the highest byte so far is above 1 just where a
+-- chip so far is no chip. Assumes nothing.
 use Prim.Native.Nat.{_-_, _≤_, _<_}
 use mathlib.Core.Path.{_≡_, refl, sym}
 use mathlib.Core.Logic.{⊎-elim}

@@ -1,4 +1,5 @@
--- `match_in` meets its contract: each test is the definition's, and what `nearest_word` gives is judged. Assumes nothing.
+-- `match_in` meets its contract: each test is the definition's, and what `nearest_word` gives is
+-- judged. Assumes nothing.
 use mathlib.Core.Path.{sym, ap, _∙_}
 use borrow.Author.Tests.{ltb-false}
 use Rattle.codes.specs.Matching.{matchIn, judged}

@@ -1,4 +1,5 @@
--- `matched` meets its contract: the constants of each call are the numbers of the mode's radio. Assumes nothing.
+-- `matched` meets its contract: the constants of each call are the numbers of the mode's radio.
+-- Assumes nothing.
 use native.Mathlib.Omega.{arith}
 use Rattle.codes.specs.Radio.{bpskWords, oqpskWords, turnedWords, turns}
 use Rattle.codes.specs.Matching.{tableFor, matchedAt}

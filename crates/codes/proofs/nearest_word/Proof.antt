@@ -1,4 +1,5 @@
--- `nearest_word` meets its contract: the nearest word so far is the definition's, which recurses at its end. Assumes nothing.
+-- `nearest_word` meets its contract: the nearest word so far is the definition's, which recurses at
+-- its end. Assumes nothing.
 use Prim.Native.Nat.{_-_, _*_, _≤_}
 use mathlib.Core.Path.{_≡_, refl, sym, _∙_}
 use mathlib.Core.Logic.{⊎-elim}
@@ -25,15 +26,24 @@ loop-holds c = (omega arith, sym (zero-mul _), refl)
 apart-requires : tie.Need-apart-requires Inv-loop μ-loop
 apart-requires c κs =
     let s = c .before .before .before in
-    let h = c .loop-test .taken in
-    (c .before .loop .inv .1, omega (arith, c .before .loop .inv .1, row-in (c .before .loop .v) _ (s .args .size) h), s .pre .3, λ z. let b = s .pre .4 z in (omega (arith, b .0), b .1), s .pre .5)
+    let h = c .loop-test .taken in (
+      c .before .loop .inv .1,
+      omega (arith, c .before .loop .inv .1, row-in (c .before .loop .v) _ (s .args .size) h),
+      s .pre .3,
+      λ z. let b = s .pre .4 z in (omega (arith, b .0), b .1),
+      s .pre .5,
+    )
 
 add-v : tie.Need-add-v Inv-loop μ-loop
 add-v c = search needs
 
 add-row : tie.Need-add-row Inv-loop μ-loop
 add-row c =
-    omega (arith, row-in (c .before .before .before .before .loop .v) _ (c .before .before .before .before .before .before .args .size) (c .before .before .before .loop-test .taken))
+    omega (
+      arith,
+      row-in (c .before .before .before .before .loop .v) _
+          (c .before .before .before .before .before .before .args .size) (c .before .before .before .loop-test .taken),
+    )
 
 loop-less : tie.Need-loop-less Inv-loop μ-loop
 loop-less c = search needs

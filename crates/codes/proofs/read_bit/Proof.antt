@@ -1,4 +1,5 @@
--- `read_bit` meets its contract: the constants are the numbers of mode 0's radio, and the table is its own. Assumes nothing.
+-- `read_bit` meets its contract: the constants are the numbers of mode 0's radio, and the table is
+-- its own. Assumes nothing.
 use mathlib.Core.Path.{refl}
 use native.Mathlib.Omega.{arith}
 use borrow.Author.Needs.{needs}

@@ -1,4 +1,5 @@
--- `read_symbol` meets its contract: the constants of each call are the numbers of the mode's radio, whose own table is given (Equal.antt). Assumes nothing.
+-- `read_symbol` meets its contract: the constants of each call are the numbers of the mode's radio,
+-- whose own table is given (Equal.antt). Assumes nothing.
 use mathlib.Core.Path.{refl, _∙_}
 use native.Mathlib.Omega.{arith}
 use Rattle.codes.specs.Radio.{bpskWords, oqpskWords, turnedWords, turns}

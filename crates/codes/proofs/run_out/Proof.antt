@@ -1,4 +1,5 @@
--- `run_out` meets its contract: it asks without a sum that could wrap what the definition asks of a sum. Assumes nothing.
+-- `run_out` meets its contract: it asks without a sum that could wrap what the definition asks of a
+-- sum. Assumes nothing.
 use Prim.Native.Nat.{_+_, _-_}
 use mathlib.Core.Path.{sym, _∙_}
 use native.Mathlib.Omega.{arith}

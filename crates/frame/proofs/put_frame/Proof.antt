@@ -1,4 +1,5 @@
--- `put_frame` meets its contract: a mode that has a radio is 0 or 1, and each is given its own table. Assumes nothing.
+-- `put_frame` meets its contract: a mode that has a radio is 0 or 1, and each is given its own
+-- table. Assumes nothing.
 use mathlib.Core.Path.{refl}
 use Rattle.codes.proofs.Modes.{second}
 use borrow.Author.Needs.{needs}

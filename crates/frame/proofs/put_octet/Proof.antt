@@ -1,4 +1,5 @@
--- `put_octet` meets its contract: what is still to be written over the buffer stays the octet's chips (`OctetLeft`). Assumes nothing.
+-- `put_octet` meets its contract: what is still to be written over the buffer stays the octet's
+-- chips (`OctetLeft`). Assumes nothing.
 use Prim.Native.Nat.{_-_, _^_, _<_}
 use mathlib.Core.Path.{refl, ap, _∙_}
 use native.Mathlib.Nat.{mod-lt}
@@ -43,7 +44,8 @@ put-symbol-requires c κs =
     let l = c .before .before .before .before in
     let s = l .before .before .before .before in
     let r = radioOf (s .args .mode) in
-    let h : l .loop .i < perOctet r = rw (← (l .before .per-octet .ensures ∙ per-known (s .args .mode) (s .pre .0))) (c .before .before .before .loop-test .taken) in
+    let h : l .loop .i < perOctet r = rw (← (l .before .per-octet .ensures ∙ per-known (s .args .mode) (s .pre .0)))
+    (c .before .before .before .loop-test .taken) in
     let e = c .before .sent-symbol .ensures ∙ ap (sent r (l .loop .v)) (c .before .before .low-bits .ensures) in (
       s .pre .0,
       s .pre .1,
@@ -58,14 +60,29 @@ add-p : tie.Need-add-p Inv-loop μ-loop
 add-p c =
     let l = c .before .before .before .before .before .before .before .before in
     let s = l .before .before .before .before in
-    let h : l .loop .i < perOctet (radioOf (s .args .mode)) = rw (← (l .before .per-octet .ensures ∙ per-known (s .args .mode) (s .pre .0))) (c .before .before .before .before .before .before .before .loop-test .taken) in
-    omega (arith, octet-room (radioOf (s .args .mode)) _ _ _ _ _ _ _ _ _ (l .loop .inv) (s .pre .3) h, l .loop .inv .same, l .before .before .size-of .ensures, size-known (s .args .mode) (s .pre .0), s .good)
+    let h : l .loop .i < perOctet (radioOf (s .args .mode)) =
+    rw (← (l .before .per-octet .ensures ∙ per-known (s .args .mode) (s .pre .0)))
+    (c .before .before .before .before .before .before .before .loop-test .taken) in
+    omega (
+      arith,
+      octet-room (radioOf (s .args .mode)) _ _ _ _ _ _ _ _ _ (l .loop .inv) (s .pre .3) h,
+      l .loop .inv .same,
+      l .before .before .size-of .ensures,
+      size-known (s .args .mode) (s .pre .0),
+      s .good,
+    )
 
 add-i : tie.Need-add-i Inv-loop μ-loop
 add-i c =
     let l = c .before .before .before .before .before .before .before .before in
     let s = l .before .before .before .before in
-    omega (arith, few-symbols (s .args .mode), l .before .per-octet .ensures, per-known (s .args .mode) (s .pre .0), c .before .before .before .before .before .before .before .loop-test .taken)
+    omega (
+      arith,
+      few-symbols (s .args .mode),
+      l .before .per-octet .ensures,
+      per-known (s .args .mode) (s .pre .0),
+      c .before .before .before .before .before .before .before .loop-test .taken,
+    )
 
 loop-less : tie.Need-loop-less Inv-loop μ-loop
 loop-less c = omega (arith, c .before .before .before .before .before .before .before .loop-test .taken)
@@ -75,17 +92,21 @@ loop-again c =
     let l = c .before .before .before .before .before .before .before .before in
     let s = l .before .before .before .before in
     let r = radioOf (s .args .mode) in
-    let h : l .loop .i < perOctet r = rw (← (l .before .per-octet .ensures ∙ per-known (s .args .mode) (s .pre .0))) (c .before .before .before .before .before .before .before .loop-test .taken) in
-    let e = c .before .before .before .before .before .sent-symbol .ensures ∙ ap (sent r (l .loop .v)) (c .before .before .before .before .before .before .low-bits .ensures) in
+    let h : l .loop .i < perOctet r = rw (← (l .before .per-octet .ensures ∙ per-known (s .args .mode) (s .pre .0)))
+    (c .before .before .before .before .before .before .before .loop-test .taken) in
+    let e = c .before .before .before .before .before .sent-symbol .ensures
+    ∙ ap (sent r (l .loop .v)) (c .before .before .before .before .before .before .low-bits .ensures) in
     octet-turns r _ _ _ _ _ _ _ _ _ (l .loop .inv) (s .pre .3) h (sound (s .args .mode)) _ _ e (c .high-bits .ensures) _ _
-    (c .before .before .before .put-symbol .kept .1 .1 .1 .0) (c .before .before .before .put-symbol .ensures) (l .before .before .size-of .ensures ∙ size-known (s .args .mode) (s .pre .0))
+    (c .before .before .before .put-symbol .kept .1 .1 .1 .0) (c .before .before .before .put-symbol .ensures)
+    (l .before .before .size-of .ensures ∙ size-known (s .args .mode) (s .pre .0))
 
 same-length : tie.Need-same-length Inv-loop μ-loop
 same-length c = c .before .loop .inv .same
 
 returns : tie.Need-returns Inv-loop μ-loop
 returns c = let s = c .before .before .before .before .before in
-    octet-ends (radioOf (s .args .mode)) _ _ _ _ _ _ _ _ _ (c .before .loop .inv) (rw (c .before .before .per-octet .ensures ∙ per-known (s .args .mode) (s .pre .0)) at (c .loop-test .left))
+    octet-ends (radioOf (s .args .mode)) _ _ _ _ _ _ _ _ _ (c .before .loop .inv)
+    (rw (c .before .before .per-octet .ensures ∙ per-known (s .args .mode) (s .pre .0)) at (c .loop-test .left))
 
 pub put-octet-spec : {M : Type 1} → statement M
 put-octet-spec =

@@ -1,4 +1,5 @@
--- `put_octets` meets its contract: what is still to be written over the buffer stays the frame (`FrameLeft`). Assumes nothing.
+-- `put_octets` meets its contract: what is still to be written over the buffer stays the frame
+-- (`FrameLeft`). Assumes nothing.
 use Prim.Native.Nat.{_-_}
 use native.Mathlib.Omega.{arith}
 use Rattle.codes.specs.Radio.{radioOf}
@@ -45,7 +46,14 @@ add-at c =
     let l = c .before .before .before .before .before .before in
     let s = l .before .before .before .before in
     let n = octets-long (s .args .report .now) in
-    omega (arith, frame-room (radioOf (s .args .mode)) _ _ _ _ _ _ (l .loop .inv) (rw n (s .pre .2)) (rw n (c .before .before .before .before .before .loop-test .taken)), l .loop .inv .same, l .before .octet-chips .ensures, s .good)
+    omega (
+      arith,
+      frame-room (radioOf (s .args .mode)) _ _ _ _ _ _ (l .loop .inv) (rw n (s .pre .2))
+          (rw n (c .before .before .before .before .before .loop-test .taken)),
+      l .loop .inv .same,
+      l .before .octet-chips .ensures,
+      s .good,
+    )
 
 add-j : tie.Need-add-j Inv-loop μ-loop
 add-j c = let s = c .before .before .before .before .before .before .before .before .before .before in
@@ -62,7 +70,8 @@ loop-again c =
     let n = octets-long (s .args .report .now) in
     let o = c .before .before .put-octet in
     let x = c .before .before .before .before .octet-at .ensures in
-    frame-turns r _ _ _ _ _ _ (l .loop .inv) (rw n (s .pre .2)) (rw n (c .before .before .before .before .before .loop-test .taken)) (sound (s .args .mode)) _ _ _
+    frame-turns r _ _ _ _ _ _ (l .loop .inv) (rw n (s .pre .2))
+    (rw n (c .before .before .before .before .before .loop-test .taken)) (sound (s .args .mode)) _ _ _
     (rw x at (o .ensures .0)) (o .kept .1 .1 .1 .1 .0) (rw x at (o .ensures .1)) (l .before .octet-chips .ensures)
 
 same-length : tie.Need-same-length Inv-loop μ-loop

@@ -25,8 +25,11 @@ slice-aggregate-put-word-2 c = search needs
 
 put-word-requires-2 : tie.Need-put-word-requires-2
 put-word-requires-2 c κs =
-    let s = c .before .before .before .before .before .before .before .before in
-    (search needs, word-fits _ (s .pre .0) _ (s .pre .1) _ (s .pre .2) 15 (rw (c .before .before .before .before .before .before .if1 .taken)) _ _ (s .pre .3) .2)
+    let s = c .before .before .before .before .before .before .before .before in (
+      search needs,
+      word-fits _ (s .pre .0) _ (s .pre .1) _ (s .pre .2) 15
+          (rw (c .before .before .before .before .before .before .if1 .taken)) _ _ (s .pre .3) .2,
+    )
 
 mul-put-word-2 : tie.Need-mul-put-word-2
 mul-put-word-2 c = search needs
@@ -44,7 +47,9 @@ returns : tie.Need-returns
 returns c =
     let s = c .before .before .before .before .before .before .before .before .before .before .before in
     c .before .before .put-word2 .ensures
-    ∙ aside-put _ (s .pre .0) _ (s .pre .1) _ (s .pre .2) 15 (rw (c .before .before .before .before .before .before .before .before .before .if1 .taken)) _ (c .before .before .before .before .before .before .put-word .ensures ∙ append-nil _) _ _
+    ∙ aside-put _ (s .pre .0) _ (s .pre .1) _ (s .pre .2) 15
+    (rw (c .before .before .before .before .before .before .before .before .before .if1 .taken))
+    _ (c .before .before .before .before .before .before .put-word .ensures ∙ append-nil _) _ _
 
 same-length-2 : tie.Need-same-length-2
 same-length-2 c = search needs
@@ -52,7 +57,8 @@ same-length-2 c = search needs
 returns-2 : tie.Need-returns-2
 returns-2 c =
     let s = c .before .before .before .before .before .before .before in
-    c .before .before .put-word3 .ensures ∙ word-put _ (s .pre .0) _ (s .pre .1) _ (s .pre .2) 32 (rw (second _ (s .pre .0) (c .before .before .before .before .before .if1 .left))) _ _
+    c .before .before .put-word3 .ensures ∙ word-put _ (s .pre .0) _ (s .pre .1) _ (s .pre .2)
+    32 (rw (second _ (s .pre .0) (c .before .before .before .before .before .if1 .left))) _ _
 
 pub put-symbol-spec : {M : Type 1} → statement M
 put-symbol-spec =

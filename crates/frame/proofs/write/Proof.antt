@@ -27,7 +27,8 @@ returns-2 : tie.Need-returns-2
 returns-2 c =
     let z = c .before .before .before in
     let a = z .before .before .before .args in
-    too-long (a .mode) (a .report .now) (a .chips .now) (sized (a .mode) _ (z .size-of .ensures) (c .before .before .if1 .left) .0) _ (c .refusal2 .ensures) (c .before .if2 .taken)
+    too-long (a .mode) (a .report .now) (a .chips .now)
+    (sized (a .mode) _ (z .size-of .ensures) (c .before .before .if1 .left) .0) _ (c .refusal2 .ensures) (c .before .if2 .taken)
 
 add-count : tie.Need-add-count
 add-count c = search needs
@@ -40,7 +41,11 @@ mul-count : tie.Need-mul-count
 mul-count c =
     let z = c .before .before .before in
     let a = z .before .before .before .args in
-    omega (arith, few (a .mode) (a .report .now) (a .chips .now) (sized (a .mode) _ (z .size-of .ensures) (c .before .before .if1 .left) .0) (c .before .if2 .left) _ (ap (_*_ _) (c .octet-chips .ensures)))
+    omega (
+      arith,
+      few (a .mode) (a .report .now) (a .chips .now) (sized (a .mode) _ (z .size-of .ensures) (c .before .before .if1 .left) .0)
+          (c .before .if2 .left) _ (ap (_*_ _) (c .octet-chips .ensures)),
+    )
 
 refusal-requires-3 : tie.Need-refusal-requires-3
 refusal-requires-3 c κs = search needs
@@ -50,20 +55,28 @@ returns-3 c =
     let o = c .before .before in
     let z = o .before .before .before in
     let a = z .before .before .before .args in
-    no-room (a .mode) (a .report .now) (a .chips .now) (sized (a .mode) _ (z .size-of .ensures) (o .before .before .if1 .left) .0) (o .before .if2 .left) _ (ap (_*_ _) (o .octet-chips .ensures)) _ (c .refusal3 .ensures) (c .before .if3 .taken)
+    no-room (a .mode) (a .report .now) (a .chips .now) (sized (a .mode) _ (z .size-of .ensures) (o .before .before .if1 .left) .0)
+    (o .before .if2 .left) _ (ap (_*_ _) (o .octet-chips .ensures)) _ (c .refusal3 .ensures) (c .before .if3 .taken)
 
 put-frame-requires : tie.Need-put-frame-requires
 put-frame-requires c κs =
     let o = c .before .before in
-    let z = o .before .before .before in
-    (sized (z .before .before .before .args .mode) _ (z .size-of .ensures) (o .before .before .if1 .left) .0, o .before .if2 .left, rw (o .octet-chips .ensures) at (c .before .if3 .left))
+    let z = o .before .before .before in (
+      sized (z .before .before .before .args .mode) _ (z .size-of .ensures) (o .before .before .if1 .left) .0,
+      o .before .if2 .left,
+      rw (o .octet-chips .ensures) at (c .before .if3 .left),
+    )
 
 cast-t12 : tie.Need-cast-t12
 cast-t12 c =
     let o = c .before .before .before .before .before in
     let z = o .before .before .before in
     let a = z .before .before .before .args in
-    omega (arith, few (a .mode) (a .report .now) (a .chips .now) (sized (a .mode) _ (z .size-of .ensures) (o .before .before .if1 .left) .0) (o .before .if2 .left) _ (ap (_*_ _) (o .octet-chips .ensures)))
+    omega (
+      arith,
+      few (a .mode) (a .report .now) (a .chips .now) (sized (a .mode) _ (z .size-of .ensures) (o .before .before .if1 .left) .0)
+          (o .before .if2 .left) _ (ap (_*_ _) (o .octet-chips .ensures)),
+    )
 
 same-length : tie.Need-same-length
 same-length c = search needs
@@ -73,7 +86,8 @@ returns-4 c =
     let o = c .before .before .before .before .before in
     let z = o .before .before .before in
     let a = z .before .before .before .args in
-    done (a .mode) (a .report .now) (a .chips .now) (sized (a .mode) _ (z .size-of .ensures) (o .before .before .if1 .left) .0) (o .before .if2 .left) _ (ap (_*_ _) (o .octet-chips .ensures)) (c .before .before .before .before .if3 .left) _ (c .before .before .put-frame .ensures)
+    done (a .mode) (a .report .now) (a .chips .now) (sized (a .mode) _ (z .size-of .ensures) (o .before .before .if1 .left) .0) (o .before .if2 .left)
+    _ (ap (_*_ _) (o .octet-chips .ensures)) (c .before .before .before .before .if3 .left) _ (c .before .before .put-frame .ensures)
 
 pub write-spec : {M : Type 1} → statement M
 write-spec =

@@ -14,7 +14,8 @@ stop-requires c κs = search needs
 
 returns : tie.Need-returns
 returns c = let a = c .before .before .before .args in
-    c .stop .ensures ∙ sym (stops (a .number) _ (stopped (a .number) (a .hand)) (c .before .before .if1 .taken) (eqb-false (a .number) DONE (not-true _ (c .before .if2 .taken))))
+    c .stop .ensures ∙ sym (stops (a .number) _ (stopped (a .number) (a .hand))
+    (c .before .before .if1 .taken) (eqb-false (a .number) DONE (not-true _ (c .before .if2 .taken))))
 
 wrapping-add-u32-requires : tie.Need-wrapping-add-u32-requires
 wrapping-add-u32-requires c κs = search needs
@@ -25,7 +26,8 @@ wrapping-add-u32-requires-2 c κs = search needs
 returns-2 : tie.Need-returns-2
 returns-2 c = let a = c .before .before .before .args in
     rw (c .before .wrapping-add-u32 .ensures, c .wrapping-add-u322 .ensures)
-    (sym (goes (a .number) _ (stopped (a .number) (a .hand)) (⊎-elim (λ w. inr (eqb-true (a .number) DONE (not-false _ (w .1 .left)))) (λ w. inl (w .left)) (c .before .before .if1 .came))))
+    (sym (goes (a .number) _ (stopped (a .number) (a .hand))
+    (⊎-elim (λ w. inr (eqb-true (a .number) DONE (not-false _ (w .1 .left)))) (λ w. inl (w .left)) (c .before .before .if1 .came))))
 
 pub advance-spec : {M : Type 1} → statement M
 advance-spec =

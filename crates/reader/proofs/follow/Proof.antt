@@ -14,7 +14,8 @@ stop-requires c κs = search needs
 
 returns : tie.Need-returns
 returns c = let p = c .before .before in
-    c .stop .ensures ∙ follow-no-radio (p .before .args .mode) (p .before .args .hand) (p .before .args .symbol) (per-sizeless (p .before .args .mode) _ (p .per-octet .ensures) (c .before .if1 .taken))
+    c .stop .ensures ∙ follow-no-radio (p .before .args .mode) (p .before .args .hand) (p .before .args .symbol)
+    (per-sizeless (p .before .args .mode) _ (p .per-octet .ensures) (c .before .if1 .taken))
 
 stop-requires-2 : tie.Need-stop-requires-2
 stop-requires-2 c κs = search needs
@@ -22,7 +23,8 @@ stop-requires-2 c κs = search needs
 returns-2 : tie.Need-returns-2
 returns-2 c = let p = c .before .before .before .before in
     let a = p .before .args in
-    c .stop2 .ensures ∙ follow-refused (a .mode) (a .hand) (a .symbol) (per-sized (a .mode) _ (p .per-octet .ensures) (c .before .before .before .if1 .left) .0) (c .before .if2 .taken)
+    c .stop2 .ensures ∙ follow-refused (a .mode) (a .hand) (a .symbol)
+    (per-sized (a .mode) _ (p .per-octet .ensures) (c .before .before .before .if1 .left) .0) (c .before .if2 .taken)
 
 raw-of-requires : tie.Need-raw-of-requires
 raw-of-requires c κs = let p = c .before .before .before in
@@ -30,8 +32,10 @@ raw-of-requires c κs = let p = c .before .before .before in
 
 shift-requires : tie.Need-shift-requires
 shift-requires c κs = let p = c .before .before .before .before in
-    let a = p .before .args in
-    (per-sized (a .mode) _ (p .per-octet .ensures) (c .before .before .before .if1 .left) .0, rw (c .raw-of .ensures) (raw-few (a .mode) (a .hand .last) (a .symbol .value)))
+    let a = p .before .args in (
+      per-sized (a .mode) _ (p .per-octet .ensures) (c .before .before .before .if1 .left) .0,
+      rw (c .raw-of .ensures) (raw-few (a .mode) (a .hand .last) (a .symbol .value)),
+    )
 
 length-after-requires : tie.Need-length-after-requires
 length-after-requires c κs = let p = c .before .before .before .before .before in
@@ -50,7 +54,8 @@ returns-3 c = let p = c .before .before .before .before .before .before .before 
     let k = per-sized (a .mode) _ (p .per-octet .ensures) (c .before .before .before .before .before .before .before .if1 .left) in
     c .advance .ensures
     ∙ follow-on (a .mode) (a .hand) (a .symbol) (k .0) (c .before .before .before .before .before .if2 .left) _ _ _ _ _ (k .1)
-    (c .before .before .before .before .raw-of .ensures) (c .before .before .before .shift .ensures) (c .before .before .length-after .ensures) (c .before .rule .ensures)
+    (c .before .before .before .before .raw-of .ensures) (c .before .before .before .shift .ensures)
+    (c .before .before .length-after .ensures) (c .before .rule .ensures)
 
 pub follow-spec : {M : Type 1} → statement M
 follow-spec =

@@ -80,7 +80,8 @@ returns-5 c =
     let p = j .before .before .before in
     let n = j .before .before .if1 .left in
     let k = per-sized (p .before .args .mode) _ (p .per-octet .ensures) n in
-    keep-whole (p .before .args .mode) (p .before .args .hand) _ (k .0) (taken j) _ (k .1) n (c .before .before .before .if4 .left) (c .before .before .if5 .left) (c .before .if6 .taken)
+    keep-whole (p .before .args .mode) (p .before .args .hand) _ (k .0) (taken j) _ (k .1) n
+    (c .before .before .before .if4 .left) (c .before .before .if5 .left) (c .before .if6 .taken)
 
 returns-6 : tie.Need-returns-6
 returns-6 c =

@@ -39,7 +39,8 @@ returns-2 : tie.Need-returns-2
 returns-2 c =
     let t = c .before .before .before .before .before in
     let a = t .before .before .before .before .before .before .before .args in
-    tells (a .mode) (a .chips .now) (a .report .now) (sized (a .mode) _ (t .before .before .before .before .size-of .ensures) (t .before .before .before .if1 .left) .0)
+    tells (a .mode) (a .chips .now) (a .report .now)
+    (sized (a .mode) _ (t .before .before .before .before .size-of .ensures) (t .before .before .before .if1 .left) .0)
     _ _ (t .before .scan .ensures) _ (t .tell .ensures) _ (c .before .before .store .ensures)
 
 pub read-spec : {M : Type 1} → statement M

@@ -20,15 +20,20 @@ use Rattle.reader.proofs.rule.Lts as lts
 -- what is left after each test fails
 off-7 : (c : lts.Joined1 reads.Pre reads.Post) → both (ltb (c .before .args .taken) (4 * c .before .args .per)) (not (eqb (c .before .args .raw) 0)) ≡ false
 off-7 c = let a = c .before .args in
-    ⊎-elim (λ w. neither (ltb (a .taken) (4 * a .per)) (not (eqb (a .raw) 0)) (λ _. w .1 .left)) (λ w. neither _ _ (λ t. not-both _ t (le-ltb (a .taken) (4 * a .per) (w .left)))) (c .if1 .came)
+    ⊎-elim (λ w. neither (ltb (a .taken) (4 * a .per)) (not (eqb (a .raw) 0)) (λ _. w .1 .left))
+    (λ w. neither _ _ (λ t. not-both _ t (le-ltb (a .taken) (4 * a .per) (w .left)))) (c .if1 .came)
 
-off-8 : (c : lts.Joined3 reads.Pre reads.Post) → both (ends (c .before .before .args .per) 4 (c .before .before .args .taken)) (not (eqb (c .before .before .args .octet) startOctet)) ≡ false
+off-8 : (c : lts.Joined3 reads.Pre reads.Post)
+    → both (ends (c .before .before .args .per) 4 (c .before .before .args .taken)) (not (eqb (c .before .before .args .octet) startOctet)) ≡ false
 off-8 c = let a = c .before .before .args in
-    ⊎-elim (λ w. neither (ends (a .per) 4 (a .taken)) (not (eqb (a .octet) startOctet)) (λ _. w .1 .left)) (λ w. neither _ _ (λ t. not-both _ t (ends-not (a .per) 4 (a .taken) _ refl (w .left)))) (c .if3 .came)
+    ⊎-elim (λ w. neither (ends (a .per) 4 (a .taken)) (not (eqb (a .octet) startOctet)) (λ _. w .1 .left))
+    (λ w. neither _ _ (λ t. not-both _ t (ends-not (a .per) 4 (a .taken) _ refl (w .left)))) (c .if3 .came)
 
-off-9 : (c : lts.Joined5 reads.Pre reads.Post) → both (ends (c .before .before .before .args .per) 5 (c .before .before .before .args .taken)) (ltb 127 (c .before .before .before .args .n)) ≡ false
+off-9 : (c : lts.Joined5 reads.Pre reads.Post)
+    → both (ends (c .before .before .before .args .per) 5 (c .before .before .before .args .taken)) (ltb 127 (c .before .before .before .args .n)) ≡ false
 off-9 c = let a = c .before .before .before .args in
-    ⊎-elim (λ w. neither (ends (a .per) 5 (a .taken)) (ltb 127 (a .n)) (λ _. w .1 .left)) (λ w. neither _ _ (λ t. not-both _ t (ends-not (a .per) 5 (a .taken) _ refl (w .left)))) (c .if5 .came)
+    ⊎-elim (λ w. neither (ends (a .per) 5 (a .taken)) (ltb 127 (a .n)) (λ _. w .1 .left))
+    (λ w. neither _ _ (λ t. not-both _ t (ends-not (a .per) 5 (a .taken) _ refl (w .left)))) (c .if5 .came)
 
 mul-if1 : tie.Need-mul-if1
 mul-if1 c = search needs
@@ -55,7 +60,8 @@ mul-if5 : tie.Need-mul-if5
 mul-if5 c = search needs
 
 returns-3 : tie.Need-returns-3
-returns-3 c = sym (rules-9 _ _ _ _ _ (off-7 (c .before .before .before)) (off-8 (c .before .before)) (rw (ends-is _ 5 _ _ refl (c .before .if5 .taken)) (c .if6 .taken)))
+returns-3 c = sym (rules-9 _ _ _ _ _ (off-7 (c .before .before .before))
+    (off-8 (c .before .before)) (rw (ends-is _ 5 _ _ refl (c .before .if5 .taken)) (c .if6 .taken)))
 
 add-if7 : tie.Need-add-if7
 add-if7 c = search needs
@@ -68,11 +74,13 @@ mul-if7 c = omega (arith, mul-le-mul-right (6 + c .before .before .before .args 
 
 returns-4 : tie.Need-returns-4
 returns-4 c = let n : 6 + c .before .before .before .before .args .n ≡ suc (5 + c .before .before .before .before .args .n) = omega arith in
-    sym (rules-done _ _ _ _ _ (off-7 (c .before .before .before)) (off-8 (c .before .before)) (off-9 (c .before)) (ends-is _ _ _ _ (ap (λ (m : ℕ). m * c .before .before .before .before .args .per) n) (c .if7 .taken)))
+    sym (rules-done _ _ _ _ _ (off-7 (c .before .before .before)) (off-8 (c .before .before)) (off-9 (c .before))
+    (ends-is _ _ _ _ (ap (λ (m : ℕ). m * c .before .before .before .before .args .per) n) (c .if7 .taken)))
 
 returns-5 : tie.Need-returns-5
 returns-5 c = let n : 6 + c .before .before .before .before .args .n ≡ suc (5 + c .before .before .before .before .args .n) = omega arith in
-    sym (rules-more _ _ _ _ _ (off-7 (c .before .before .before)) (off-8 (c .before .before)) (off-9 (c .before)) (ends-not _ _ _ _ (ap (λ (m : ℕ). m * c .before .before .before .before .args .per) n) (c .if7 .left)))
+    sym (rules-more _ _ _ _ _ (off-7 (c .before .before .before)) (off-8 (c .before .before)) (off-9 (c .before))
+    (ends-not _ _ _ _ (ap (λ (m : ℕ). m * c .before .before .before .before .args .per) n) (c .if7 .left)))
 
 pub rule-spec : {M : Type 1} → statement M
 rule-spec =

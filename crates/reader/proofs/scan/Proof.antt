@@ -1,4 +1,5 @@
--- `scan` meets its contract: what is still to be read stays the reading's answer (Scanning.antt). Assumes nothing.
+-- `scan` meets its contract: what is still to be read stays the reading's answer (Scanning.antt).
+-- Assumes nothing.
 use Prim.Native.Nat.{_+_, _-_, _≤_}
 use mathlib.Core.Path.{_≡_, refl, ap, _∙_}
 use mathlib.Core.Logic.{⊎-elim}
@@ -37,21 +38,42 @@ abbrev μ-symbols : tie.MeasureT-symbols
 -- the state after a turn
 abbrev Turn : Type 0
 Turn =
-    lts.After-struct-known2
-    (table-reads.Asked, table-reads.Learnt, size-of-reads.Asked, size-of-reads.Learnt, begin-reads.Asked, begin-reads.Learnt, matched-reads.Asked, matched-reads.Learnt, stop-reads.Asked, stop-reads.Learnt, follow-reads.Asked, follow-reads.Learnt, with-room-reads.Asked, with-room-reads.Learnt, keep-reads.Asked, keep-reads.Learnt)
+    lts.After-struct-known2 (
+      table-reads.Asked,
+      table-reads.Learnt,
+      size-of-reads.Asked,
+      size-of-reads.Learnt,
+      begin-reads.Asked,
+      begin-reads.Learnt,
+      matched-reads.Asked,
+      matched-reads.Learnt,
+      stop-reads.Asked,
+      stop-reads.Learnt,
+      follow-reads.Asked,
+      follow-reads.Learnt,
+      with-room-reads.Asked,
+      with-room-reads.Learnt,
+      keep-reads.Asked,
+      keep-reads.Learnt,
+    )
     reads.Pre reads.Post Inv-chips μ-chips Inv-symbols μ-symbols
 
 turn : (c : Turn)
-    → Turning (radioOf (c .before .before .before .before .before .before .before .before .before .before .before .before .before .before .before .args .mode)) (c .before .before .before .before .before .before .before .before .before .before .before .before .before .before .before .args .room) (c .before .before .before .before .before .before .before .before .before .before .before .before .before .before .before .args .chips .now) (c .before .keep .last .1 .1 .0) (c .before .before .before .with-room .result)
-    (c .before .before .before .before .before .before .before .before .before .before .symbols .at + c .before .before .before .before .before .before .before .before .before .before .before .before .size-of .result)
+    → Turning (radioOf (c .before .before .before .before .before .before .before .before .before .before .before .before .before .before .before .args .mode))
+    (c .before .before .before .before .before .before .before .before .before .before .before .before .before .before .before .args .room)
+    (c .before .before .before .before .before .before .before .before .before .before .before .before .before .before .before .args .chips .now) (c .before .keep .last .1 .1 .0) (c .before .before .before .with-room .result)
+    (c .before .before .before .before .before .before .before .before .before .before .symbols .at
+    + c .before .before .before .before .before .before .before .before .before .before .before .before .size-of .result)
 turn c =
     let j = c .before .before .before .before .before in
     let q = j .before .before .before .before .before in
     let s = q .before .before .before .before .before in
     let z = q .before .before .size-of .ensures in
     let i : j .if1 .hand ≡ q .symbols .hand = ⊎-elim (λ w. w .3 ∙ w .1 .inv .1) (λ w. w .1) (j .if1 .came) in
-    turns (s .args .mode) (s .pre .0) (s .args .room) (s .args .chips .now) (q .symbols .octets) (j .if1 .hand) (q .symbols .at) _ z (rw i (q .symbols .inv)) (j .before .before .before .before .symbols-test .taken) _ (q .before .before .before .table .ensures)
-    _ (j .before .before .matched .ensures) _ (c .before .before .before .before .follow .ensures) _ (c .before .before .before .with-room .ensures) _ (c .before .keep .ensures)
+    turns (s .args .mode) (s .pre .0) (s .args .room) (s .args .chips .now) (q .symbols .octets) (j .if1 .hand) (q .symbols .at) _
+    z (rw i (q .symbols .inv)) (j .before .before .before .before .symbols-test .taken) _ (q .before .before .before .table .ensures)
+    _ (j .before .before .matched .ensures) _ (c .before .before .before .before .follow .ensures)
+    _ (c .before .before .before .with-room .ensures) _ (c .before .keep .ensures)
 
 table-requires : tie.Need-table-requires Inv-chips μ-chips Inv-symbols μ-symbols
 table-requires c κs = tt
@@ -79,7 +101,13 @@ chips-holds c = (omega arith, refl)
 add-if2 : tie.Need-add-if2 Inv-chips μ-chips Inv-symbols μ-symbols
 add-if2 c =
     let q = c .before .before .before .before .before .before .before in
-    omega (arith, q .symbols .inv .upto, c .before .before .before .before .before .before .symbols-test .taken, c .chips-test .taken, q .before .before .before .before .before .good)
+    omega (
+      arith,
+      q .symbols .inv .upto,
+      c .before .before .before .before .before .before .symbols-test .taken,
+      c .chips-test .taken,
+      q .before .before .before .before .before .good,
+    )
 
 shared-slice-read-if2 : tie.Need-shared-slice-read-if2 Inv-chips μ-chips Inv-symbols μ-symbols
 shared-slice-read-if2 c =
@@ -92,7 +120,12 @@ stop-requires c κs = tt
 add-k : tie.Need-add-k Inv-chips μ-chips Inv-symbols μ-symbols
 add-k c =
     let q = c .before .before .before .before .before .before .before .before .before in
-    omega (arith, c .before .before .chips-test .taken, c .before .before .before .before .before .before .before .before .symbols-test .taken, q .before .before .before .before .before .good)
+    omega (
+      arith,
+      c .before .before .chips-test .taken,
+      c .before .before .before .before .before .before .before .before .symbols-test .taken,
+      q .before .before .before .before .before .good,
+    )
 
 chips-less : tie.Need-chips-less Inv-chips μ-chips Inv-symbols μ-symbols
 chips-less c = omega (arith, c .before .before .chips-test .taken)
@@ -112,12 +145,23 @@ keep-requires c κs = tt
 add-at : tie.Need-add-at Inv-chips μ-chips Inv-symbols μ-symbols
 add-at c =
     let q = c .before .before .before .before .before .before .before .before .before .before .before in
-    omega (arith, q .symbols .inv .upto, c .before .before .before .before .before .before .before .before .before .before .symbols-test .taken, q .before .before .before .before .before .good)
+    omega (
+      arith,
+      q .symbols .inv .upto,
+      c .before .before .before .before .before .before .before .before .before .before .symbols-test .taken,
+      q .before .before .before .before .before .good,
+    )
 
 symbols-less : tie.Need-symbols-less Inv-chips μ-chips Inv-symbols μ-symbols
 symbols-less c =
     let q = c .before .before .before .before .before .before .before .before .before .before .before in
-    omega (arith, q .symbols .inv .upto, c .before .before .before .before .before .before .before .before .before .before .symbols-test .taken, size-positive (q .before .before .before .before .before .args .mode) _ (q .before .before .before .before .before .pre .0) (q .before .before .size-of .ensures))
+    omega (
+      arith,
+      q .symbols .inv .upto,
+      c .before .before .before .before .before .before .before .before .before .before .symbols-test .taken,
+      size-positive (q .before .before .before .before .before .args .mode) _
+          (q .before .before .before .before .before .pre .0) (q .before .before .size-of .ensures),
+    )
 
 symbols-again : tie.Need-symbols-again Inv-chips μ-chips Inv-symbols μ-symbols
 symbols-again c = turn (c .before) .0 (c .if3 .left)
@@ -126,15 +170,18 @@ returns : tie.Need-returns Inv-chips μ-chips Inv-symbols μ-symbols
 returns c =
     let q = c .before in
     let s = q .before .before .before .before .before in
-    runs-out (s .args .mode) (s .pre .0) (s .args .room) (s .args .chips .now) _ _ _ _ (q .before .before .size-of .ensures) (q .symbols .inv) (c .symbols-test .left)
+    runs-out (s .args .mode) (s .pre .0) (s .args .room) (s .args .chips .now) _ _
+    _ _ (q .before .before .size-of .ensures) (q .symbols .inv) (c .symbols-test .left)
 
 returns-2 : tie.Need-returns-2 Inv-chips μ-chips Inv-symbols μ-symbols
 returns-2 c =
     let q = c .before .before .before .before .before .before .before .before .before .before in
     let s = q .before .before .before .before .before in
     let k = c .before .before .before .before .chips in
-    stops-bad (s .args .mode) (s .pre .0) (s .args .room) (s .args .chips .now) _ _ _ _ (q .before .before .size-of .ensures) (q .symbols .inv) (c .before .before .before .before .before .before .before .before .before .symbols-test .taken)
-    (bad-byte (s .args .chips .now) (q .symbols .at) _ (k .k) (c .before .before .before .chips-test .taken) (c .before .if2 .taken)) _ (c .stop .ensures ∙ ap (stopped NOCHIP) (k .inv .1))
+    stops-bad (s .args .mode) (s .pre .0) (s .args .room) (s .args .chips .now) _ _ _ _ (q .before .before .size-of .ensures)
+    (q .symbols .inv) (c .before .before .before .before .before .before .before .before .before .symbols-test .taken)
+    (bad-byte (s .args .chips .now) (q .symbols .at) _ (k .k) (c .before .before .before .chips-test .taken) (c .before .if2 .taken))
+    _ (c .stop .ensures ∙ ap (stopped NOCHIP) (k .inv .1))
 
 returns-3 : tie.Need-returns-3 Inv-chips μ-chips Inv-symbols μ-symbols
 returns-3 c = turn (c .before) .1 (c .if3 .taken)

@@ -1,5 +1,5 @@
--- `main` is safe: the octets that were read are in their buffer, and the chips that the writer counts in theirs (`chips-fit`).
--- Assumes nothing.
+-- `main` is safe: the octets that were read are in their buffer, and the chips that the writer
+-- counts in theirs (`chips-fit`). Assumes nothing.
 use mathlib.Core.Path.{sym}
 use lib.Seq.{length-take-le}
 use borrow.Author.Needs.{needs}

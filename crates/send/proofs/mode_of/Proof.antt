@@ -1,4 +1,5 @@
--- `mode_of` meets its contract: what is still to be read stays the mode (Digits.antt). Assumes nothing.
+-- `mode_of` meets its contract: what is still to be read stays the mode (Digits.antt). Assumes
+-- nothing.
 use Prim.Native.Nat.{_-_, _≤_}
 use mathlib.Core.Path.{_≡_}
 use native.Mathlib.Omega.{arith}
@@ -55,7 +56,8 @@ loop-again c = let t = c .before .before .before .before .before .before .before
     let l = c .before .before .before .before .before .loop in (
       omega arith,
       omega (arith, c .capped .ensures),
-      digit t _ _ (l .inv .2) (c .before .before .before .before .loop-test .taken) (c .before .before .if2 .left) _ (c .before .if3 .left) (c .capped .ensures),
+      digit t _ _ (l .inv .2) (c .before .before .before .before .loop-test .taken)
+          (c .before .before .if2 .left) _ (c .before .if3 .left) (c .capped .ensures),
     )
 
 cast-result : tie.Need-cast-result Inv-loop μ-loop

@@ -1,4 +1,5 @@
--- `read_all` meets its contract: each read puts at most as many octets as there is room for. Assumes nothing.
+-- `read_all` meets its contract: each read puts at most as many octets as there is room for.
+-- Assumes nothing.
 use Prim.Native.Nat.{_-_, _≤_}
 use mathlib.Core.Path.{_≡_}
 use lib.ListN.{length}

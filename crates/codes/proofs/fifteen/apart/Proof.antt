@@ -1,4 +1,5 @@
--- `apart` meets its contract: no digit carries, so the sum of the digits is that for the word of 0; what is left of fifteen is that for the word of 1 (Bits.antt). Assumes nothing.
+-- `apart` meets its contract: no digit carries, so the sum of the digits is that for the word of 0;
+-- what is left of fifteen is that for the word of 1 (Bits.antt). Assumes nothing.
 use mathlib.Core.Path.{_≡_}
 use native.Mathlib.Omega.{arith}
 use Rattle.codes.proofs.Bits.{bit-fits, bit-few, bit-zero, bit-one}
@@ -33,14 +34,16 @@ returns : tie.Need-returns
 returns c =
     let b = c .before .before in
     let s = b .before .before .before in
-    rw (c .if1 .taken) (bit-zero (s .args .chips .now) (s .args .at) (s .pre .1) (s .pre .2) _ _ (b .before .eight .ensures) (b .eight2 .ensures) _ (c .before .digit-sum .ensures))
+    rw (c .if1 .taken) (bit-zero (s .args .chips .now) (s .args .at) (s .pre .1) (s .pre .2)
+    _ _ (b .before .eight .ensures) (b .eight2 .ensures) _ (c .before .digit-sum .ensures))
 
 returns-2 : tie.Need-returns-2
 returns-2 c =
     let b = c .before .before in
     let s = b .before .before .before in
     let e : s .args .bit ≡ 1 = omega (arith, s .pre .0, c .if1 .left) in
-    rw e (bit-one (s .args .chips .now) (s .args .at) (s .pre .1) (s .pre .2) _ _ (b .before .eight .ensures) (b .eight2 .ensures) _ (c .before .digit-sum .ensures))
+    rw e (bit-one (s .args .chips .now) (s .args .at) (s .pre .1) (s .pre .2) _ _
+    (b .before .eight .ensures) (b .eight2 .ensures) _ (c .before .digit-sum .ensures))
 
 pub apart-spec : {M : Type 1} → statement M
 apart-spec =

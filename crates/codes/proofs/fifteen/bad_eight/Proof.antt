@@ -1,4 +1,5 @@
--- `bad_eight` meets its contract: what the mask leaves is above 0 just where a byte is above 1. Assumes nothing.
+-- `bad_eight` meets its contract: what the mask leaves is above 0 just where a byte is above 1.
+-- Assumes nothing.
 use Prim.Native.Nat.{_+_}
 use native.Mathlib.Omega.{arith}
 use borrow.Author.Needs.{needs}

@@ -1,4 +1,5 @@
--- `digit_sum` meets its contract: it computes what the definition says, in numbers that fit. Assumes nothing.
+-- `digit_sum` meets its contract: it computes what the definition says, in numbers that fit.
+-- Assumes nothing.
 use mathlib.Core.Path.{refl}
 use borrow.Author.Needs.{needs}
 use Rattle.codes.specs.Packed.{digitSum}

@@ -1,4 +1,5 @@
--- `eight` meets its contract: with each turn, the number so far has one digit more. Assumes nothing.
+-- `eight` meets its contract: with each turn, the number so far has one digit more. Assumes
+-- nothing.
 use Prim.Native.Nat.{_+_, _-_, _≤_}
 use mathlib.Core.Path.{_≡_, refl}
 use native.Mathlib.Omega.{arith}
@@ -43,8 +44,11 @@ loop-less c = search needs
 loop-again : tie.Need-loop-again Inv-loop μ-loop
 loop-again c =
     let a = c .before .before .before .before .before .args in
-    let i = c .before .before .before .loop .inv in
-    (omega arith, digit-more (from (a .bytes .now) (a .at)) (λ k. omega (arith, c .before .shared-slice-known2 .given (a .at + k))) _ _ _ (c .before .before .loop-test .taken) (i .1) (c .wide .ensures))
+    let i = c .before .before .before .loop .inv in (
+      omega arith,
+      digit-more (from (a .bytes .now) (a .at)) (λ k. omega (arith, c .before .shared-slice-known2 .given (a .at + k)))
+          _ _ _ (c .before .before .loop-test .taken) (i .1) (c .wide .ensures),
+    )
 
 returns : tie.Need-returns Inv-loop μ-loop
 returns c = let e : c .before .loop .k ≡ 8 = omega arith in

@@ -1,5 +1,6 @@
--- `forged` meets its contract: a law for each of its ways (Ways.antt). Its numbers fit, since a limit is at most 6, a length here at most
--- 127 and an octet has at most 8 symbols. Assumes nothing.
+-- `forged` meets its contract: a law for each of its ways (Ways.antt). Its numbers fit, since a
+-- limit is at most 6, a length here at most 127 and an octet has at most 8 symbols. Assumes
+-- nothing.
 use mathlib.Core.Path.{_≡_}
 use mathlib.Core.Logic.{_⊎_, inl, inr, ⊎-elim}
 use Prim.Native.Nat.{_+_}
@@ -9,7 +10,17 @@ use borrow.Author.Tests.{eqb-true, eqb-false, not-true, not-false}
 use Rattle.codes.specs.Numbers.{DONE, MORE}
 use Rattle.frame.proofs.Modes.{per-sized, per-sizeless, per-few}
 use Rattle.receiver.specs.Record.{forged}
-use Rattle.receiver.proofs.Ways.{limit-few, forged-refused, forged-no-radio, forged-long, number-of-symbols, forged-count, last-test, forged-open, forged-ended}
+use Rattle.receiver.proofs.Ways.{
+  limit-few,
+  forged-refused,
+  forged-no-radio,
+  forged-long,
+  number-of-symbols,
+  forged-count,
+  last-test,
+  forged-open,
+  forged-ended,
+}
 use borrow.Author.Needs.{needs}
 use Rattle.receiver.proofs.Receiver.forged.Statement.{statement}
 use Rattle.receiver.proofs.Receiver.forged.Tie as tie
@@ -25,12 +36,15 @@ going c = ⊎-elim (λ w. inr (eqb-true _ DONE (not-false _ (w .2 .left)))) (λ 
 
 -- where the tests before it are passed, the last one decides
 tested : (c : lts.After-struct-known7 (per-octet-reads.Asked, per-octet-reads.Learnt, limit-of-reads.Asked, limit-of-reads.Learnt) reads.Pre reads.Post)
-    → forged (c .before .before .before .before .before .before .before .before .before .before .before .before .args .self) ≡ number-of-symbols (c .before .before .before .before .before .before .before .before .before .before .before .before .args .self) (c .before .before .before .before .before .before .before .before .before .per-octet .result)
+    → forged (c .before .before .before .before .before .before .before .before .before .before .before .before .args .self)
+    ≡ number-of-symbols (c .before .before .before .before .before .before .before .before .before .before .before .before .args .self)
+    (c .before .before .before .before .before .before .before .before .before .per-octet .result)
 tested c =
     let p = c .before .before .before .before .before .before .before .before .before in
     let s = p .before .before .before .args .self in
     let k = per-sized (s .mode) _ (p .per-octet .ensures) (c .before .before .before .before .before .before .before .before .if3 .left) in
-    last-test s (going (p .before)) (k .0) (c .before .before .before .before .before .before .if4 .left) _ (c .before .before .before .before .before .limit-of .ensures) (c .before .before .if5 .left) _ (k .1)
+    last-test s (going (p .before)) (k .0) (c .before .before .before .before .before .before .if4 .left)
+    _ (c .before .before .before .before .before .limit-of .ensures) (c .before .before .if5 .left) _ (k .1)
 
 returns : tie.Need-returns
 returns c = let s = c .before .before .before .before .args .self in

@@ -23,7 +23,8 @@ answer-requires-2 c κs = search needs
 returns-2 : tie.Need-returns-2
 returns-2 c = let f = c .before .before .before .before in
     c .answer2 .ensures
-    ∙ push-ended (f .before .before .args .self) (f .before .before .args .part .now) (sym (f .forged .ensures) ∙ c .before .before .before .if1 .left) (c .before .if2 .taken)
+    ∙ push-ended (f .before .before .args .self) (f .before .before .args .part .now)
+    (sym (f .forged .ensures) ∙ c .before .before .before .if1 .left) (c .before .if2 .taken)
 
 size-of-requires : tie.Need-size-of-requires
 size-of-requires c κs = search needs
@@ -34,7 +35,8 @@ answer-requires-3 c κs = search needs
 returns-3 : tie.Need-returns-3
 returns-3 c = let f = c .before .before .before .before .before .before in
     c .answer3 .ensures
-    ∙ push-part (f .before .before .args .self) (f .before .before .args .part .now) (sym (f .forged .ensures) ∙ c .before .before .before .before .before .if1 .left)
+    ∙ push-part (f .before .before .args .self) (f .before .before .args .part .now)
+    (sym (f .forged .ensures) ∙ c .before .before .before .before .before .if1 .left)
     (c .before .before .before .if2 .left) _ (c .before .before .size-of .ensures) (c .before .if3 .taken)
 
 read-symbol-requires : tie.Need-read-symbol-requires

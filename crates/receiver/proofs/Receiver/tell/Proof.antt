@@ -32,7 +32,8 @@ refusal-requires-2 c κs = search needs
 returns-2 : tie.Need-returns-2
 returns-2 c = let f = c .before .before .before .before in
     c .refusal2 .ensures
-    ∙ ap told (takes-open (f .before .args .self) (f .before .args .room) (sym (f .forged .ensures) ∙ c .before .before .before .if1 .left) (c .before .if2 .taken))
+    ∙ ap told (takes-open (f .before .args .self) (f .before .args .room)
+    (sym (f .forged .ensures) ∙ c .before .before .before .if1 .left) (c .before .if2 .taken))
 
 refusal-requires-3 : tie.Need-refusal-requires-3
 refusal-requires-3 c κs = search needs

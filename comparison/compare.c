@@ -1,0 +1,356 @@
+/*
+ * The differential test: the library against the reference, on cases drawn at random from a seed.
+ *
+ *   compare [SEED [CASES]]       (else a seed from the clock, and 2,000,000 cases)
+ *
+ * A case is one call of the library. The same seed gives the same cases. Exits with 1 on the first
+ * mismatch, and where one of the numbers that a function can give never came up.
+ */
+#define _DEFAULT_SOURCE
+#include <inttypes.h>
+#include <stdio.h>
+#include <stdlib.h>
+#include <string.h>
+#include <time.h>
+#include <unistd.h>
+
+#include "cases.h"
+#include "compared_calls.h"
+#include "printed_facts.h"
+#include "reference.h"
+
+/* ---- Kinds of cases ---- */
+
+static struct made made;
+static uint8_t wanted[LENT_MAX];   /* what a lent buffer must hold after the call */
+
+static void try_reading(void)
+{
+    uint32_t mode;
+
+    make_chips(&made, 127);
+    mode = make_mode(made.mode);
+    check_read(mode, made.chips, made.length, make_room(made.n));
+}
+
+/* What is written reads back, whatever stands behind it: by the library alone, without the
+ * reference. */
+static void try_reading_back(uint32_t mode, const uint8_t *report, size_t length, size_t room)
+{
+    lernazhup_written written;
+    lernazhup_reading want = { LERNAZHUP_DONE, 0, 0, 0 };
+    size_t shown;
+    uint8_t *in, *out;
+
+    memcpy(wanted, pick_junk(), room);
+    begin("lernazhup_write, then lernazhup_read", mode, report, length, room);
+    written = lernazhup_write(mode, report, length, wanted, room);
+    want.place = written.chips / reference_chips(mode);
+    want.n = (uint32_t)length;
+    shown = chance(50) ? written.chips : room;
+    in = lend_somewhere(LENT_IN, wanted, shown);
+    out = lend_somewhere(LENT_OUT, pick_junk(), length);
+    check_reading(lernazhup_read(mode, in, shown, out, length), want);
+    check_lent(LENT_OUT, "report", report);
+}
+
+static void try_writing(void)
+{
+    static uint8_t report[LENT_MAX];
+    uint32_t mode = pick(2), kind = pick(100);
+    size_t length = kind < 55 ? pick(20) : kind < 97 ? pick(131) : kind < 99 ? pick(600) : 256 + pick(128), room, needed;
+
+    notes_clear();
+    if (pick(2000) == 0)
+        length = 65536 + pick(128);
+    if (chance(20))
+        memset(report, chance(50) ? 0 : 0xFF, length);
+    else
+        memcpy(report, pick_junk(), length);
+    needed = reference_chips(mode) * reference_per_octet(mode) * (6 + (length < 128 ? length : 128));
+    room = chance(40) ? needed + pick(3) : make_room(needed);
+    mode = make_mode(mode);
+    if (check_write(mode, report, length, room).number == LERNAZHUP_DONE && chance(25))
+        try_reading_back(mode, report, length, room);
+}
+
+/* Calls that must change nothing: answered 10, 11 or 12. Gives the record that the last of them
+ * gave back. */
+static lernazhup_receiver idle_calls(lernazhup_receiver record)
+{
+    static uint8_t part[PART_MAX];
+    const uint8_t *bytes = pick_junk();
+
+    if (chance(50))
+        check_take(record, make_room(record.length % 128));
+    if (record.mode > 1)
+        return check_push(record, bytes, 15 + 17 * pick(2)).receiver;
+    if (record.ended == LERNAZHUP_MORE)
+        return check_push(record, bytes, make_part_length(record.mode)).receiver;
+    if (chance(50))
+        return check_finish(record).receiver;
+    return check_push(record, part, make_part(record.mode, part)).receiver;
+}
+
+/* For a buffer cut into whole symbols, take into 127 bytes gives what the reader gives: by the
+ * library alone. */
+static void check_take_is_read(lernazhup_receiver record)
+{
+    uint8_t report[127];
+    lernazhup_reading want;
+
+    memset(wanted, 0x5A, sizeof report);
+    memset(report, 0x5A, sizeof report);
+    begin_on_record("lernazhup_read, then lernazhup_take", &record, made.chips, made.length, sizeof report);
+    want = lernazhup_read(record.mode, made.chips, made.length, report, sizeof report);
+    check_reading(lernazhup_take(record, wanted, sizeof report), want);
+    if (memcmp(wanted, report, sizeof report) != 0)
+        mismatch("take's report isn't the reader's");
+}
+
+/* The record of a step that start, push and finish alone have led to. */
+static lernazhup_receiver honest(lernazhup_step step)
+{
+    if (step.number == LERNAZHUP_FORGED)
+        mismatch("a record made by these calls is answered 34");
+    return step.receiver;
+}
+
+/* A record from start to its end, symbol by symbol. */
+static void try_sequence(void)
+{
+    lernazhup_receiver record;
+    size_t size, at;
+
+    make_chips(&made, chance(90) ? 20 : 127);
+    size = reference_chips(made.mode);
+    record = check_start(make_mode(made.mode));
+    if (record.mode <= 1)
+        size = reference_chips(record.mode);
+    for (at = 0; record.ended == LERNAZHUP_MORE && made.length - at >= size; at += size) {
+        record = honest(check_push(record, made.chips + at, size));
+        if (chance(10))
+            record = idle_calls(record);
+        if (chance(10))
+            keep_record(&record);
+    }
+    if (record.ended == LERNAZHUP_MORE)
+        record = honest(check_finish(record));
+    keep_record(&record);
+    record = idle_calls(record);
+    check_take(record, make_room(made.n));
+    if (check_take(record, 127).number == LERNAZHUP_FORGED)
+        mismatch("a record made by these calls is answered 34");
+    check_take_is_read(record);
+}
+
+/* Each call on a record that may be forged, and on what push makes of it. */
+static void try_record(void)
+{
+    lernazhup_receiver record = make_record();
+    uint8_t part[PART_MAX];
+    int pushes;
+
+    check_take(record, make_room(record.length % 256));
+    check_finish(record);
+    for (pushes = 1 + (int)pick(3); pushes > 0; pushes--)
+        record = check_push(record, part, make_part(record.mode < 2 ? record.mode : pick(2), part)).receiver;
+    if (chance(30))
+        check_take(record, 127);
+}
+
+static void try_start(void)
+{
+    lernazhup_receiver record;
+
+    notes_clear();
+    record = check_start(chance(50) ? pick(2) : make_bad_mode());
+    keep_record(&record);
+    if (chance(30))
+        idle_calls(record);
+}
+
+static void try_something(void)
+{
+    uint32_t kind = pick(100);
+
+    if (kind < 56)
+        try_reading();
+    else if (kind < 76)
+        try_writing();
+    else if (kind < 79)
+        try_sequence();
+    else if (kind < 98)
+        try_record();
+    else
+        try_start();
+}
+
+/* Take of a record ended well, of each length, with rooms around it. */
+static void try_taking(uint32_t mode, uint32_t n)
+{
+    lernazhup_receiver record = reference_start(mode).receiver;
+
+    record.ended = LERNAZHUP_DONE;
+    record.length = n;
+    record.taken = (6 + n) * reference_per_octet(mode);
+    memcpy(record.octets, pick_junk(), n);
+    if (n > 0)
+        check_take(record, n - 1);
+    check_take(record, n);
+    check_take(record, n + 1);
+}
+
+/* Every length, in both modes: at the accepted distance, one chip farther in the last symbol, and
+ * with rooms at the edge. */
+static void try_every_length(void)
+{
+    uint32_t mode, n, each;
+
+    for (each = 0; each < 2 * 128; each++) {
+        mode = each % 2;
+        n = each / 2;
+        make_edge_frame(&made, mode, n, 0);
+        check_read(mode, made.chips, made.length, n);
+        check_read(mode, made.chips, made.length, n + 1);
+        if (n > 0)
+            check_read(mode, made.chips, made.length, n - 1);
+        check_read(mode, made.chips, made.length - 1, n);
+        make_edge_frame(&made, mode, n, 1);
+        check_read(mode, made.chips, made.length, 127);
+        notes_clear();
+        check_write(mode, pick_junk(), n, made.frame);
+        check_write(mode, pick_junk(), n, made.frame - 1);
+        check_write(mode, pick_junk(), n, made.frame + 1);
+        try_taking(mode, n);
+    }
+}
+
+/* ---- Lengths that don't fit in 32 bits ---- */
+
+static uint8_t *huge_in, *huge_out;
+static const size_t huge = (size_t)UINT32_MAX + 1;
+
+/* Only the front of such a buffer is compared: nothing has a reason to touch more of it. */
+static void check_huge_front(void)
+{
+    long at;
+
+    for (at = 0; at < LENT_MAX; at++)
+        if (huge_out[at] != wanted[at])
+            mismatch("a lent buffer of more than 4 GiB was changed where it shouldn't be, or not where it should be");
+    memset(huge_out, 0, LENT_MAX);
+}
+
+static void try_huge_frames(uint32_t mode)
+{
+    static const uint8_t report[3] = { 1, 2, 3 };
+    lernazhup_written want, got;
+    lernazhup_reading want_read;
+    int twice;
+
+    for (twice = 0; twice < 2; twice++) {
+        /* First a chip buffer that long, then a report that long. */
+        const uint8_t *in = twice == 0 ? report : huge_in;
+        size_t length = twice == 0 ? 3 : huge + 3;
+
+        memset(wanted, 0, LENT_MAX);
+        want = reference_write(mode, in, length, wanted, LENT_MAX);
+        count_case(WRITE, want.number);
+        begin("lernazhup_write", mode, NULL, length, huge + 1);
+        got = lernazhup_write(mode, in, length, huge_out, huge + 1);
+        if (got.number != want.number || got.chips != want.chips)
+            mismatch("the answer to a length above 32 bits differs");
+        check_huge_front();
+    }
+    reference_write(mode, report, 3, huge_in, LENT_MAX);
+    memset(wanted, 0, LENT_MAX);
+    want_read = reference_read(mode, huge_in, LENT_MAX, wanted, 127);
+    count_case(READ, want_read.number);
+    begin("lernazhup_read", mode, NULL, huge + 1, huge + 1);
+    check_reading(lernazhup_read(mode, huge_in, huge + 1, huge_out, huge + 1), want_read);
+    check_huge_front();
+    memset(huge_in, 0, LENT_MAX);
+}
+
+/* A part of one symbol and 4 GiB, and a report of a record of two octets taken into 4 GiB. */
+static void try_huge_records(uint32_t mode)
+{
+    lernazhup_receiver record = reference_start(mode).receiver;
+    lernazhup_reading want;
+
+    begin_on_record("lernazhup_push", &record, NULL, huge + reference_chips(mode), 0);
+    count_case(PUSH, LERNAZHUP_BADPART);
+    check_step(lernazhup_push(record, huge_in, huge + reference_chips(mode)),
+        reference_push(record, huge_in, huge + reference_chips(mode)));
+    record.ended = LERNAZHUP_DONE;
+    record.length = 2;
+    record.taken = 8 * reference_per_octet(mode);
+    record.octets[0] = record.octets[1] = 0xEE;
+    memset(wanted, 0, LENT_MAX);
+    want = reference_take(record, wanted, 127);
+    count_case(TAKE, want.number);
+    begin_on_record("lernazhup_take", &record, NULL, 0, huge + 1);
+    check_reading(lernazhup_take(record, huge_out, huge + 1), want);
+    check_huge_front();
+}
+
+static void try_huge_lengths(void)
+{
+    uint32_t mode;
+
+    notes_clear();
+    huge_in = lent_huge(huge + LENT_MAX);
+    huge_out = lent_huge(huge + LENT_MAX);
+    if (huge_in == NULL || huge_out == NULL) {
+        printf("lengths above 32 bits are left out: no address space for them\n");
+        return;
+    }
+    for (mode = 0; mode < 2; mode++) {
+        try_huge_frames(mode);
+        try_huge_records(mode);
+    }
+}
+
+/* ---- The run ---- */
+
+#ifdef __SANITIZE_ADDRESS__
+#define SANITIZED "with"
+#else
+#define SANITIZED "without"
+#endif
+
+/* A number in digits and nothing else: a comma in it would silently make a short run of a long
+ * one. */
+static uint64_t number(const char *text)
+{
+    if (*text == 0 || text[strspn(text, "0123456789")] != 0) {
+        fprintf(stderr, "compare: '%s' is not a number\n", text);
+        exit(2);
+    }
+    return strtoull(text, NULL, 10);
+}
+
+int main(int argc, char **argv)
+{
+    enum { MANY = 100000 };
+    uint64_t seed = argc > 1 ? number(argv[1]) : (uint64_t)time(NULL) * 1000003 + (uint64_t)getpid();
+    uint64_t wanted_cases = argc > 2 ? number(argv[2]) : 2000000;
+    static char again[200];
+
+    snprintf(again, sizeof again, "%.100s %" PRIu64 " %" PRIu64, argv[0], seed, wanted_cases);
+    printf("seed %" PRIu64 "; again: %s\nthe C side is built %s the address sanitizer\n", seed, again, SANITIZED);
+    fflush(stdout);
+    if (!facts_hold())
+        return 1;
+    pick_seed(seed);
+    check_open(again);
+    try_start();
+    while (cases_so_far() < wanted_cases)
+        try_something();
+    try_every_length();
+    try_huge_lengths();
+    print_counts();
+    /* A test that never met a number says nothing on it. Few cases can't be asked for all. */
+    return wanted_cases < MANY || all_met() ? 0 : 1;
+}

@@ -1,0 +1,415 @@
+/* The compared calls of the differential test; see compared_calls.h. */
+#define _DEFAULT_SOURCE
+#include "compared_calls.h"
+
+#include <inttypes.h>
+#include <signal.h>
+#include <stdio.h>
+#include <stdlib.h>
+#include <string.h>
+#include <unistd.h>
+
+#include "cases.h"
+#include "reference.h"
+#ifndef LIBRARY_ONLY
+#include "baselines.h"
+#endif
+
+/* ---- What is compared ---- */
+
+typedef lernazhup_reading read_function(uint32_t, const uint8_t *, size_t, uint8_t *, size_t);
+typedef lernazhup_written write_function(uint32_t, const uint8_t *, size_t, uint8_t *, size_t);
+
+static const struct implementation {
+    const char *read_name, *write_name;
+    read_function *read;
+    write_function *write;
+} implementations[] = {
+    { "lernazhup_read", "lernazhup_write", lernazhup_read, lernazhup_write },
+#ifndef LIBRARY_ONLY
+    { "usual_read", NULL, usual_read, NULL },
+    { "best_read", NULL, best_read, NULL },
+    { NULL, "copying_write", NULL, copying_write },
+#endif
+};
+
+enum { IMPLEMENTATIONS = sizeof implementations / sizeof implementations[0] };
+
+/* ---- The case in hand, and what was met so far ---- */
+
+static const char *const function_names[FUNCTIONS] = { "write", "read", "start", "push", "finish", "take" };
+
+/* Numbers by column: 0 to 13, 34, and the others, which take repeats from forged records. */
+enum { FORGED = 14, OTHER = 15, COLUMNS = 16 };
+
+static const char *repeat;
+static uint64_t cases, baseline_cases;
+static uint64_t met[FUNCTIONS][COLUMNS];
+static uint64_t written_lengths[2][128], read_lengths[2][128];
+
+static struct {
+    const char *name;
+    uint32_t mode;
+    const uint8_t *in;           /* the buffer that is read, if any */
+    size_t in_length, room;
+    int on_record;
+    lernazhup_receiver record;
+    const lernazhup_receiver *got, *want;   /* the records that came back, where these differ */
+} now;
+
+static void print_record(const char *title, const lernazhup_receiver *r)
+{
+    int i, shown = 127;
+
+    while (shown > 0 && r->octets[shown - 1] == 0)
+        shown--;
+    printf("  %s: mode %" PRIu32 ", ended %" PRIu32 ", taken %" PRIu32 ", length %" PRIu32 ", count %" PRIu32 ", last %" PRIu32
+        ", octet %" PRIu32 ", octets", title, r->mode, r->ended, r->taken, r->length, r->count, r->last, r->octet);
+    for (i = 0; i < shown; i++)
+        printf(" %02x", r->octets[i]);
+    printf(shown < 127 ? " and zeros\n" : "\n");
+}
+
+/* Chips symbol by symbol; a byte that isn't a chip in brackets. */
+static void print_bytes(void)
+{
+    enum { SHOWN = 2000 };
+    size_t i, group = now.mode == 0 ? 15 : 32;
+
+    printf("  bytes in:");
+    for (i = 0; i < now.in_length && i < SHOWN; i++) {
+        if (i % group == 0)
+            printf(" ");
+        printf(now.in[i] > 1 ? "[%d]" : "%d", now.in[i]);
+    }
+    printf("%s\n", i < now.in_length ? " .." : "");
+}
+
+/* What is needed for finding the case again, with or without the seed. */
+static void print_case(void)
+{
+    printf("  call: %s, mode %" PRIu32 ", %zu bytes in, a room of %zu bytes\n", now.name, now.mode, now.in_length, now.room);
+    notes_print(stdout);
+    if (now.on_record)
+        print_record("record in", &now.record);
+    if (now.got != NULL) {
+        print_record("record out", now.got);
+        print_record("should be", now.want);
+    }
+    if (now.in != NULL && now.in_length > 0)
+        print_bytes();
+    printf("  again: %s\n", repeat);
+    fflush(stdout);
+}
+
+void mismatch(const char *what)
+{
+    printf("mismatch in case %" PRIu64 ": %s\n", cases, what);
+    print_case();
+    exit(1);
+}
+
+/* A function under test touched what it wasn't lent, trapped, or doesn't end. It holds no lock of
+ * ours, so printing is safe. */
+static void on_signal(int number)
+{
+    printf("mismatch in case %" PRIu64 ": signal %d%s\n", cases, number,
+        number == SIGSEGV || number == SIGBUS ? ", memory touched that wasn't lent" : number == SIGALRM ? ", no answer" : "");
+    print_case();
+    _exit(1);
+}
+
+void begin(const char *name, uint32_t mode, const uint8_t *in, size_t in_length, size_t room)
+{
+    now.name = name;
+    now.mode = mode;
+    now.in = in;
+    now.in_length = in_length;
+    now.room = room;
+    now.on_record = 0;
+}
+
+void begin_on_record(const char *name, const lernazhup_receiver *record, const uint8_t *in, size_t in_length, size_t room)
+{
+    begin(name, record->mode, in, in_length, room);
+    now.on_record = 1;
+    now.record = *record;
+}
+
+void count_case(enum function function, uint32_t number)
+{
+    enum { SECONDS = 120, OFTEN = 1024 };
+
+    if (cases++ % OFTEN == 0)
+        alarm(SECONDS);
+    met[function][number <= 13 ? number : number == 34 ? FORGED : OTHER]++;
+}
+
+uint64_t cases_so_far(void)
+{
+    return cases;
+}
+
+/* ---- Lent memory ---- */
+
+static uint8_t wanted[LENT_MAX];        /* what a lent buffer must hold after the call */
+static uint8_t junk[2 * LENT_MAX];      /* random bytes that stand in lent buffers before it */
+
+const uint8_t *pick_junk(void)
+{
+    return junk + pick(LENT_MAX);
+}
+
+static uint64_t lent_at[LENT_SIDES];
+
+uint8_t *lend_somewhere(enum lent_slot slot, const uint8_t *bytes, size_t length)
+{
+    uint32_t kind = pick(100);
+    enum lent_side side = kind < 60 ? LENT_AT_END : kind < 75 ? LENT_AT_START : LENT_BETWEEN;
+
+    if (length == 0 && kind < 40)
+        side = LENT_NULL;
+    lent_at[side]++;
+    return lend(slot, bytes, length, side, pick(16));
+}
+
+void check_lent(enum lent_slot slot, const char *what, const uint8_t *bytes)
+{
+    char words[160];
+    long at = lent_differs(slot, bytes);
+
+    if (at >= 0) {
+        snprintf(words, sizeof words, "byte %ld of the lent %s buffer is %d and should be %d", at, what,
+            lent_bytes(slot)[at], bytes[at]);
+        mismatch(words);
+    }
+    if (!lent_guards_kept(slot)) {
+        snprintf(words, sizeof words, "a byte beside the lent %s buffer was changed", what);
+        mismatch(words);
+    }
+}
+
+/* ---- Whole frames ---- */
+
+void check_reading(lernazhup_reading got, lernazhup_reading want)
+{
+    char words[200];
+
+    if (got.number == want.number && got.place == want.place && got.n == want.n && got.count == want.count)
+        return;
+    snprintf(words, sizeof words, "number, place, n, count are %" PRIu32 " %" PRIu32 " %" PRIu32 " %" PRIu32
+        " and should be %" PRIu32 " %" PRIu32 " %" PRIu32 " %" PRIu32,
+        got.number, got.place, got.n, got.count, want.number, want.place, want.n, want.count);
+    mismatch(words);
+}
+
+lernazhup_reading check_read(uint32_t mode, const uint8_t *chips, size_t length, size_t room)
+{
+    const uint8_t *before = pick_junk();
+    lernazhup_reading want;
+    int i;
+
+    memcpy(wanted, before, room);
+    want = reference_read(mode, chips, length, wanted, room);
+    count_case(READ, want.number);
+    if (want.number == LERNAZHUP_DONE)
+        read_lengths[mode][want.n]++;
+    for (i = 0; i < IMPLEMENTATIONS; i++) {
+        uint8_t *in, *out;
+
+        if (implementations[i].read == NULL)
+            continue;
+        baseline_cases += i > 0;
+        begin(implementations[i].read_name, mode, chips, length, room);
+        in = lend_somewhere(LENT_IN, chips, length);
+        out = lend_somewhere(LENT_OUT, before, room);
+        check_reading(implementations[i].read(mode, in, length, out, room), want);
+        check_lent(LENT_IN, "chip", chips);
+        check_lent(LENT_OUT, "report", wanted);
+    }
+    return want;
+}
+
+lernazhup_written check_write(uint32_t mode, const uint8_t *report, size_t length, size_t room)
+{
+    const uint8_t *before = pick_junk();
+    lernazhup_written want;
+    char words[120];
+    int i;
+
+    memcpy(wanted, before, room);
+    want = reference_write(mode, report, length, wanted, room);
+    count_case(WRITE, want.number);
+    if (want.number == LERNAZHUP_DONE)
+        written_lengths[mode][length]++;
+    for (i = 0; i < IMPLEMENTATIONS; i++) {
+        lernazhup_written got;
+        uint8_t *in, *out;
+
+        if (implementations[i].write == NULL)
+            continue;
+        baseline_cases += i > 0;
+        begin(implementations[i].write_name, mode, report, length, room);
+        in = lend_somewhere(LENT_IN, report, length);
+        out = lend_somewhere(LENT_OUT, before, room);
+        got = implementations[i].write(mode, in, length, out, room);
+        if (got.number != want.number || got.chips != want.chips) {
+            snprintf(words, sizeof words, "number, chips are %" PRIu32 " %" PRIu32 " and should be %" PRIu32 " %" PRIu32,
+                got.number, got.chips, want.number, want.chips);
+            mismatch(words);
+        }
+        check_lent(LENT_IN, "report", report);
+        check_lent(LENT_OUT, "chip", wanted);
+    }
+    return want;
+}
+
+/* ---- The receiver's calls ---- */
+
+/* The name of a field that differs; NULL where none does. */
+static const char *other_field(const lernazhup_receiver *a, const lernazhup_receiver *b)
+{
+    return a->mode != b->mode ? "mode" : a->ended != b->ended ? "ended" : a->taken != b->taken ? "taken"
+        : a->length != b->length ? "length" : a->count != b->count ? "count" : a->last != b->last ? "last"
+        : a->octet != b->octet ? "octet" : memcmp(a->octets, b->octets, sizeof a->octets) != 0 ? "octets" : NULL;
+}
+
+void check_step(lernazhup_step got, lernazhup_step want)
+{
+    const char *field = other_field(&got.receiver, &want.receiver);
+    char words[100];
+
+    if (got.number == want.number && field == NULL)
+        return;
+    if (got.number != want.number)
+        snprintf(words, sizeof words, "the number is %" PRIu32 " and should be %" PRIu32, got.number, want.number);
+    else
+        snprintf(words, sizeof words, "the number is %" PRIu32 " as it should be, but %s differs", got.number, field);
+    now.got = &got.receiver;
+    now.want = &want.receiver;
+    mismatch(words);
+}
+
+lernazhup_receiver check_start(uint32_t mode)
+{
+    lernazhup_step want = reference_start(mode);
+
+    count_case(START, want.number);
+    begin("lernazhup_start", mode, NULL, 0, 0);
+    check_step(lernazhup_start(mode), want);
+    return want.receiver;
+}
+
+lernazhup_step check_push(lernazhup_receiver record, const uint8_t *part, size_t length)
+{
+    lernazhup_step want = reference_push(record, part, length);
+    uint8_t *in;
+
+    count_case(PUSH, want.number);
+    begin_on_record("lernazhup_push", &record, part, length, 0);
+    in = lend_somewhere(LENT_IN, part, length);
+    check_step(lernazhup_push(record, in, length), want);
+    check_lent(LENT_IN, "part", part);
+    return want;
+}
+
+lernazhup_step check_finish(lernazhup_receiver record)
+{
+    lernazhup_step want = reference_finish(record);
+
+    count_case(FINISH, want.number);
+    begin_on_record("lernazhup_finish", &record, NULL, 0, 0);
+    check_step(lernazhup_finish(record), want);
+    return want;
+}
+
+lernazhup_reading check_take(lernazhup_receiver record, size_t room)
+{
+    const uint8_t *before = pick_junk();
+    lernazhup_reading want;
+    uint8_t *out;
+
+    memcpy(wanted, before, room);
+    want = reference_take(record, wanted, room);
+    count_case(TAKE, want.number);
+    begin_on_record("lernazhup_take", &record, NULL, 0, room);
+    out = lend_somewhere(LENT_OUT, before, room);
+    check_reading(lernazhup_take(record, out, room), want);
+    check_lent(LENT_OUT, "report", wanted);
+    return want;
+}
+
+/* ---- Was each number met? ---- */
+
+/* Document 01's table "Numbers given back", by function. */
+static const int8_t columns_of[FUNCTIONS][12] = {
+    { 0, 1, 2, 3, -1 },
+    { 0, 1, 3, 4, 5, 6, 7, 8, 9, -1 },
+    { 1, 13, -1 },
+    { 0, 5, 6, 7, 8, 9, 10, 11, 13, FORGED, -1 },
+    { 4, 10, FORGED, -1 },
+    { 0, 1, 3, 4, 5, 6, 7, 8, 9, 12, FORGED, -1 }
+};
+
+int all_met(void)
+{
+    int f, i, n, all = 1;
+
+    for (f = 0; f < FUNCTIONS; f++)
+        for (i = 0; columns_of[f][i] >= 0; i++)
+            if (met[f][columns_of[f][i]] == 0) {
+                printf("%s never answered %d\n", function_names[f], columns_of[f][i] == FORGED ? 34 : columns_of[f][i]);
+                all = 0;
+            }
+    for (n = 0; n < 256; n++)
+        if (written_lengths[n / 128][n % 128] == 0 || read_lengths[n / 128][n % 128] == 0) {
+            printf("mode %d: %d octets never written or never read\n", n / 128, n % 128);
+            all = 0;
+        }
+    return all;
+}
+
+void print_counts(void)
+{
+    int f, n;
+
+    for (f = 0; f < FUNCTIONS; f++) {
+        uint64_t all = 0;
+
+        for (n = 0; n < COLUMNS; n++)
+            all += met[f][n];
+        printf("%-6s %8" PRIu64 " cases, by number:", function_names[f], all);
+        for (n = 0; n < OTHER; n++)
+            if (met[f][n] > 0)
+                printf(" %d: %" PRIu64 ",", n == FORGED ? 34 : n, met[f][n]);
+        printf(" others: %" PRIu64 "\n", met[f][OTHER]);
+    }
+    printf("lent   %8" PRIu64 " buffers that end at an unmapped page, %" PRIu64 " that begin at one, %" PRIu64
+        " between guard bytes, %" PRIu64 " null\n",
+        lent_at[LENT_AT_END], lent_at[LENT_AT_START], lent_at[LENT_BETWEEN], lent_at[LENT_NULL]);
+    printf("%" PRIu64 " cases, no mismatch; %" PRIu64 " more of the baselines\n", cases, baseline_cases);
+}
+
+static void catch_signals(void)
+{
+    static const int numbers[] = { SIGSEGV, SIGBUS, SIGILL, SIGFPE, SIGTRAP, SIGABRT, SIGALRM };
+    struct sigaction action;
+    size_t i;
+
+    memset(&action, 0, sizeof action);
+    action.sa_handler = on_signal;
+    sigemptyset(&action.sa_mask);
+    for (i = 0; i < sizeof numbers / sizeof numbers[0]; i++)
+        sigaction(numbers[i], &action, NULL);
+}
+
+void check_open(const char *again)
+{
+    repeat = again;
+    if (!lent_open()) {
+        printf("no memory to lend\n");
+        exit(1);
+    }
+    catch_signals();
+    pick_bytes(junk, sizeof junk);
+}

@@ -1,0 +1,192 @@
+/* The makers of parts and records; see cases.h. */
+#include <string.h>
+
+#include "cases.h"
+#include "reference.h"
+
+/* ---- Parts ---- */
+
+size_t make_part_length(uint32_t mode)
+{
+    size_t size = reference_chips(mode);
+    size_t lengths[8] = { 0, 1, 0, 0, 0, 0, 256, 512 };
+
+    lengths[2] = size - 1;
+    lengths[3] = size + 1;
+    lengths[4] = reference_chips(1 - mode);
+    lengths[5] = 2 * size;
+    /* 256 and 512 more than a symbol: for a length cut to 8 bits. */
+    lengths[6] += size;
+    lengths[7] += size;
+    return lengths[pick(8)];
+}
+
+/* Inverts that many chips, side by side with a turn: different ones, and cheap. */
+static void wrong_chips(uint8_t *part, uint32_t size, uint32_t wrong)
+{
+    uint32_t from = pick(size), i;
+
+    for (i = 0; i < wrong; i++)
+        part[(from + i) % size] ^= 1;
+}
+
+size_t make_part(uint32_t mode, uint8_t *part)
+{
+    uint32_t size = reference_chips(mode), limit = reference_limit(mode), kind = pick(100);
+    uint32_t value = chance(40) ? 0 : pick(mode == 0 ? 2 : 16), i;
+
+    memcpy(part, reference_word(mode, value), size);
+    note("part like word %ld", value);
+    if (kind < 60)
+        wrong_chips(part, size, pick(limit + 1));
+    else if (kind < 80)
+        wrong_chips(part, size, limit + pick(2));
+    else if (kind < 85)
+        memset(part, (int)pick(2), size);
+    else if (kind < 90)
+        make_between(mode, part);
+    else if (kind < 94)
+        for (i = 0; i < size; i++)
+            part[i] = (uint8_t)pick(2);
+    if (chance(8)) {
+        i = pick(size);
+        part[i] = (uint8_t)(2 + pick(254));
+    }
+    if (chance(8)) {
+        for (i = size; i < PART_MAX; i++)
+            part[i] = (uint8_t)pick(2);
+        return make_part_length(mode);
+    }
+    return size;
+}
+
+/* ---- Records ---- */
+
+/* Records that the calls made, some of each age. */
+enum { KEPT = 256 };
+static lernazhup_receiver kept[KEPT];
+static uint32_t kept_length;
+
+void keep_record(const lernazhup_receiver *record)
+{
+    if (kept_length < KEPT)
+        kept[kept_length++] = *record;
+    else
+        kept[pick(KEPT)] = *record;
+}
+
+/* Numbers at which a width or a sum may break. */
+static uint32_t wild_number(void)
+{
+    static const uint32_t numbers[] = {
+        0, 1, 13, 34, 127, 128, 255, 256, 65535, 65536, 0x2AAAAAAA, 0x2AAAAAAB, 0x33333333, 0x33333334, 0x7FFFFFFF,
+        0x80000000, 0xFFFFFFFE, 0xFFFFFFFF
+    };
+    uint32_t any = pick_any();
+
+    return chance(60) ? numbers[pick(sizeof numbers / sizeof numbers[0])] : any >> pick(32);
+}
+
+static uint32_t *field_of(lernazhup_receiver *record, uint32_t which)
+{
+    uint32_t *fields[7];
+
+    fields[0] = &record->mode;
+    fields[1] = &record->ended;
+    fields[2] = &record->taken;
+    fields[3] = &record->length;
+    fields[4] = &record->count;
+    fields[5] = &record->last;
+    fields[6] = &record->octet;
+    return fields[which];
+}
+
+/* One that the calls made, with one field changed, by a little or wildly. */
+static lernazhup_receiver change_one(void)
+{
+    lernazhup_receiver record = kept[pick(kept_length)];
+    uint32_t which = pick(7), *field = field_of(&record, which);
+
+    *field = chance(50) ? *field + pick(7) - 3 : wild_number();
+    note("a made record with field %ld changed", which);
+    return record;
+}
+
+static lernazhup_receiver all_random(void)
+{
+    lernazhup_receiver record;
+    uint32_t which;
+
+    memset(&record, 0, sizeof record);
+    for (which = 0; which < 7; which++)
+        *field_of(&record, which) = wild_number();
+    pick_bytes(record.octets, sizeof record.octets);
+    note("a record of random fields", 0);
+    return record;
+}
+
+/* The number of symbols taken: around a place where something is decided, and at times so large
+ * that products with it wrap. */
+static uint32_t edge_taken(uint32_t per_octet, uint32_t length)
+{
+    uint32_t total = (6 + length) * per_octet, octet = pick(7);
+
+    switch (pick(9)) {
+    case 0:
+        return total;
+    case 1:
+        return total + 1;
+    case 2:
+        return pick(total + 1);
+    case 3:
+        return octet * per_octet + pick(3) - 1;
+    case 4:
+        return (4 + octet % 3) * per_octet - 1;
+    case 5:
+        return chance(50) ? 0xFFFFFFFF / 6 + pick(total) : 0xFFFFFFFF / 5 + pick(total);
+    case 6:
+        return pick((length + 1) * per_octet) + 5 * per_octet;
+    default:
+        return total - 1;
+    }
+}
+
+/* A record that passes the tests of 34 but for one or two at their edges. */
+static lernazhup_receiver at_edges(void)
+{
+    lernazhup_receiver record;
+    uint32_t per_octet, limit;
+
+    memset(&record, 0, sizeof record);
+    record.mode = pick(2);
+    per_octet = reference_per_octet(record.mode);
+    limit = reference_limit(record.mode);
+    record.length = chance(30) ? 124 + pick(6) : pick(chance(50) ? 4 : 128);
+    record.taken = edge_taken(per_octet, record.length);
+    record.ended = chance(65) ? LERNAZHUP_MORE : LERNAZHUP_DONE;
+    if (record.ended == LERNAZHUP_DONE && chance(70))
+        record.taken = (6 + record.length) * per_octet;
+    record.count = chance(60) ? limit * record.taken + pick(3) - 1 : pick(limit * (record.taken % 1100) + 1);
+    record.last = chance(70) ? pick(16) : wild_number();
+    /* Octets that the right symbol makes 0xA7, or the top bit of which will be 0. */
+    record.octet = chance(40) ? (record.mode == 1 ? 0x70 : 0x4E) + pick(2) : chance(50) ? pick(256) : wild_number();
+    pick_bytes(record.octets, sizeof record.octets);
+    note("a record at the edges", 0);
+    return record;
+}
+
+lernazhup_receiver make_record(void)
+{
+    lernazhup_receiver record;
+    uint32_t kind = pick(100);
+
+    notes_clear();
+    record = kind < 40 ? at_edges() : kind < 75 ? change_one() : kind < 85 ? all_random() : kept[pick(kept_length)];
+    if (kind >= 85)
+        note("a made record", 0);
+    if (chance(8)) {
+        record.ended = chance(60) ? pick(36) : wild_number();
+        note("ended with %ld", (long)record.ended);
+    }
+    return record;
+}

@@ -1,0 +1,361 @@
+/*
+ * The reference: document 01 in plain C. It is meant for being checked by eye with 01 in the other
+ * hand, so it follows 01's words and order and does nothing for speed: each symbol is compared with
+ * every word, chip by chip.
+ *
+ * The reader keeps the raw symbols and reads octets off them; push works on the record, as the
+ * header describes it. The two share only what one symbol is (match, raw_of), so that their
+ * agreement says something.
+ */
+#include "reference.h"
+
+#include <string.h>
+
+/* ---- The two radios ---- */
+
+enum { START_OCTET = 0xA7, PREAMBLE_OCTETS = 4, HEAD_OCTETS = 6, SYMBOLS_MAX = (6 + 127) * 8, NO_WORD = 16 };
+
+struct radio {
+    uint32_t chips;      /* chips per symbol */
+    uint32_t bits;       /* bits per symbol */
+    uint32_t limit;      /* accepted distance: at most this */
+    uint32_t words;      /* one for each value of a symbol */
+    uint32_t per_octet;  /* symbols per octet */
+    uint8_t word[16][32];
+};
+
+static struct radio radios[2] = {
+    { 15, 1, 6, 2, 8, { { 0 } } },
+    { 32, 4, 5, 16, 2, { { 0 } } }
+};
+
+static const char bit_0[] = "111101011001000";
+static const char bit_1[] = "000010100110111";
+static const char symbol_0[] = "11011001110000110101001000101110";
+
+static void make_words(void)
+{
+    uint8_t (*word)[32] = radios[1].word;
+    uint32_t w, c;
+
+    for (c = 0; c < 15; c++) {
+        radios[0].word[0][c] = (uint8_t)(bit_0[c] - '0');
+        radios[0].word[1][c] = (uint8_t)(bit_1[c] - '0');
+    }
+    for (c = 0; c < 32; c++)
+        word[0][c] = (uint8_t)(symbol_0[c] - '0');
+    /* Symbols 1 to 7 are each the one before, turned right by four chips. */
+    for (w = 1; w <= 7; w++)
+        for (c = 0; c < 32; c++)
+            word[w][(c + 4) % 32] = word[w - 1][c];
+    /* Symbols 8 to 15 are symbols 0 to 7 with each chip of odd index inverted. */
+    for (w = 8; w <= 15; w++)
+        for (c = 0; c < 32; c++)
+            word[w][c] = c % 2 == 1 ? 1 - word[w - 8][c] : word[w - 8][c];
+}
+
+/* The radio of a mode; NULL where the mode is neither 0 nor 1. */
+static const struct radio *radio_of(uint32_t mode)
+{
+    static int made;
+
+    if (!made)
+        make_words();
+    made = 1;
+    if (mode != 0 && mode != 1)
+        return NULL;
+    return &radios[mode];
+}
+
+/* ---- One symbol ---- */
+
+/* The number of places where two chip words of one length differ. */
+static uint32_t distance(const uint8_t *a, const uint8_t *b, uint32_t length)
+{
+    uint32_t c, places = 0;
+
+    for (c = 0; c < length; c++)
+        places += a[c] != b[c];
+    return places;
+}
+
+static int has_bad_byte(const uint8_t *symbol, uint32_t length)
+{
+    uint32_t c;
+
+    for (c = 0; c < length; c++)
+        if (symbol[c] > 1)
+            return 1;
+    return 0;
+}
+
+/* The value of the one word within the accepted distance, and how far away it is; or NO_WORD. */
+static uint32_t match(const struct radio *radio, const uint8_t *symbol, uint32_t *away)
+{
+    uint32_t w, value = NO_WORD;
+
+    for (w = 0; w < radio->words; w++) {
+        uint32_t d = distance(radio->word[w], symbol, radio->chips);
+
+        if (d <= radio->limit) {
+            value = w;
+            *away = d;
+        }
+    }
+    return value;
+}
+
+/* Mode 0: the sum modulo 2 of each encoded bit and the one before it. Mode 1: the symbol itself. */
+static uint32_t raw_of(const struct radio *radio, uint32_t before, uint32_t value)
+{
+    return radio->bits == 1 ? (before % 2 + value) % 2 : value;
+}
+
+/* ---- The frame ---- */
+
+static uint32_t symbols_in_frame(const struct radio *radio, uint32_t n)
+{
+    return (HEAD_OCTETS + n) * radio->per_octet;
+}
+
+size_t reference_spread(uint32_t mode, const uint8_t *octets, size_t octets_len, uint8_t *chips)
+{
+    const struct radio *radio = radio_of(mode);
+    uint32_t encoded = 0, s;
+    size_t k, at = 0;
+
+    for (k = 0; k < octets_len; k++) {
+        for (s = 0; s < radio->per_octet; s++) {
+            /* Lowest bit first; low four bits first. */
+            uint32_t raw = octets[k] >> (s * radio->bits) & (radio->words - 1);
+
+            encoded = radio->bits == 1 ? (raw + encoded) % 2 : raw;
+            memcpy(chips + at, radio->word[encoded], radio->chips);
+            at += radio->chips;
+        }
+    }
+    return at;
+}
+
+lernazhup_written reference_write(uint32_t mode, const uint8_t *report, size_t report_len, uint8_t *chips, size_t chips_len)
+{
+    const struct radio *radio = radio_of(mode);
+    lernazhup_written answer = { 0, 0 };
+    uint8_t octets[HEAD_OCTETS + 127] = { 0, 0, 0, 0, START_OCTET };
+    size_t k, needed;
+
+    if (radio == NULL) {
+        answer.number = LERNAZHUP_BADMODE;
+        return answer;
+    }
+    if (report_len > 127) {
+        answer.number = LERNAZHUP_TOOLONG;
+        return answer;
+    }
+    needed = symbols_in_frame(radio, (uint32_t)report_len) * radio->chips;
+    if (chips_len < needed) {
+        answer.number = LERNAZHUP_NOROOM;
+        return answer;
+    }
+    octets[5] = (uint8_t)report_len;
+    for (k = 0; k < report_len; k++)
+        octets[HEAD_OCTETS + k] = report[k];
+    reference_spread(mode, octets, HEAD_OCTETS + report_len, chips);
+    answer.chips = (uint32_t)needed;
+    return answer;
+}
+
+/* ---- The reader ---- */
+
+static lernazhup_reading done(uint32_t place, uint32_t n, uint32_t count)
+{
+    lernazhup_reading answer = { LERNAZHUP_DONE, 0, 0, 0 };
+
+    answer.place = place;
+    answer.n = n;
+    answer.count = count;
+    return answer;
+}
+
+/* A refusal: n and count are 0. */
+static lernazhup_reading refused(uint32_t number, uint32_t place)
+{
+    lernazhup_reading answer = done(place, 0, 0);
+
+    answer.number = number;
+    return answer;
+}
+
+/* Octet k of the frame, from the raw symbols. */
+static uint32_t octet_of(const struct radio *radio, const uint32_t *raw, uint32_t k)
+{
+    uint32_t s, octet = 0;
+
+    for (s = 0; s < radio->per_octet; s++)
+        octet += raw[k * radio->per_octet + s] << (s * radio->bits);
+    return octet;
+}
+
+lernazhup_reading reference_read(uint32_t mode, const uint8_t *chips, size_t chips_len, uint8_t *report, size_t report_len)
+{
+    const struct radio *radio = radio_of(mode);
+    uint32_t raw[SYMBOLS_MAX], encoded = 0, count = 0, n = 0, s, k;
+
+    if (radio == NULL)
+        return refused(LERNAZHUP_BADMODE, 0);
+    for (s = 0; s < symbols_in_frame(radio, n); s++) {
+        size_t at = (size_t)s * radio->chips;
+        uint32_t value, away = 0;
+
+        if (chips_len - at < radio->chips)
+            return refused(LERNAZHUP_RUNOUT, s);
+        if (has_bad_byte(chips + at, radio->chips))
+            return refused(LERNAZHUP_NOCHIP, s);
+        value = match(radio, chips + at, &away);
+        if (value == NO_WORD)
+            return refused(LERNAZHUP_LOST, s);
+        count += away;
+        raw[s] = raw_of(radio, encoded, value);
+        encoded = value;
+        if (s < PREAMBLE_OCTETS * radio->per_octet && raw[s] != 0)
+            return refused(LERNAZHUP_PREAMBLE, s);
+        if (s + 1 == 5 * radio->per_octet && octet_of(radio, raw, 4) != START_OCTET)
+            return refused(LERNAZHUP_BADSTART, s);
+        if (s + 1 == 6 * radio->per_octet) {
+            if (octet_of(radio, raw, 5) >= 128)
+                return refused(LERNAZHUP_RESERVED, s);
+            n = octet_of(radio, raw, 5);
+            if (report_len < n)
+                return refused(LERNAZHUP_NOROOM, s);
+        }
+    }
+    for (k = 0; k < n; k++)
+        report[k] = (uint8_t)octet_of(radio, raw, HEAD_OCTETS + k);
+    return done(s, n, count);
+}
+
+/* ---- The stepping receiver ---- */
+
+/*
+ * Document 01 doesn't say what a record keeps of the octet in hand, which shows where push is given
+ * a forged record. Here and in the library `last` is the value of the last symbol taken and `octet`
+ * holds the last eight raw bits, the newest at the top.
+ */
+
+static lernazhup_step step(uint32_t number, lernazhup_receiver r)
+{
+    lernazhup_step answer;
+
+    memset(&answer, 0, sizeof answer);
+    answer.number = number;
+    answer.receiver = r;
+    return answer;
+}
+
+/* A refusal ends the record; nothing else in it changes. */
+static lernazhup_step ended_by(uint32_t number, lernazhup_receiver r)
+{
+    r.ended = number;
+    return step(number, r);
+}
+
+/* A record that these calls don't make. Only one that is open or ended well is tested. */
+static int forged(const lernazhup_receiver *r)
+{
+    const struct radio *radio = radio_of(r->mode);
+
+    if (r->ended != LERNAZHUP_MORE && r->ended != LERNAZHUP_DONE)
+        return 0;
+    if (radio == NULL || r->length > 127)
+        return 1;
+    if (r->count > (uint64_t)radio->limit * r->taken)
+        return 1;
+    if (r->ended == LERNAZHUP_MORE)
+        return r->taken >= symbols_in_frame(radio, r->length);
+    return r->taken != symbols_in_frame(radio, r->length);
+}
+
+lernazhup_step reference_start(uint32_t mode)
+{
+    lernazhup_receiver r;
+
+    memset(&r, 0, sizeof r);
+    r.mode = mode;
+    r.ended = mode == 0 || mode == 1 ? LERNAZHUP_MORE : LERNAZHUP_BADMODE;
+    return step(r.ended, r);
+}
+
+/* One symbol of the right length, taken into an open record by the reading order. */
+static lernazhup_step take_symbol(const struct radio *radio, lernazhup_receiver r, const uint8_t *symbol)
+{
+    uint32_t next = r.taken + 1, per_octet = radio->per_octet, away = 0, value, raw, octet;
+
+    if (has_bad_byte(symbol, radio->chips))
+        return ended_by(LERNAZHUP_NOCHIP, r);
+    value = match(radio, symbol, &away);
+    if (value == NO_WORD)
+        return ended_by(LERNAZHUP_LOST, r);
+    raw = raw_of(radio, r.last, value);
+    /* Symbols come lowest first: each goes in at the top and pushes the ones before it down. */
+    octet = (r.octet % 256 >> radio->bits) + (raw << (8 - radio->bits));
+    if (r.taken < PREAMBLE_OCTETS * per_octet && raw != 0)
+        return ended_by(LERNAZHUP_PREAMBLE, r);
+    if (next == 5 * per_octet && octet != START_OCTET)
+        return ended_by(LERNAZHUP_BADSTART, r);
+    if (next == 6 * per_octet && octet >= 128)
+        return ended_by(LERNAZHUP_RESERVED, r);
+    r.taken = next;
+    r.count += away;
+    r.last = value;
+    r.octet = octet;
+    if (next == 6 * per_octet)
+        r.length = octet;
+    if (next >= 7 * per_octet && next % per_octet == 0)
+        r.octets[next / per_octet - 7] = (uint8_t)octet;
+    r.ended = next == symbols_in_frame(radio, r.length) ? LERNAZHUP_DONE : LERNAZHUP_MORE;
+    return step(r.ended, r);
+}
+
+lernazhup_step reference_push(lernazhup_receiver r, const uint8_t *part, size_t part_len)
+{
+    if (forged(&r))
+        return step(LERNAZHUP_FORGED, r);
+    if (r.ended != LERNAZHUP_MORE)
+        return step(LERNAZHUP_ENDED, r);
+    if (part_len != radio_of(r.mode)->chips)
+        return step(LERNAZHUP_BADPART, r);
+    return take_symbol(radio_of(r.mode), r, part);
+}
+
+lernazhup_step reference_finish(lernazhup_receiver r)
+{
+    if (forged(&r))
+        return step(LERNAZHUP_FORGED, r);
+    if (r.ended != LERNAZHUP_MORE)
+        return step(LERNAZHUP_ENDED, r);
+    return ended_by(LERNAZHUP_RUNOUT, r);
+}
+
+lernazhup_reading reference_take(lernazhup_receiver r, uint8_t *report, size_t report_len)
+{
+    uint32_t k;
+
+    if (forged(&r))
+        return refused(LERNAZHUP_FORGED, 0);
+    if (r.ended == LERNAZHUP_MORE)
+        return refused(LERNAZHUP_NOTENDED, 0);
+    if (r.ended != LERNAZHUP_DONE)
+        return refused(r.ended, r.taken);
+    if (report_len < r.length)
+        return refused(LERNAZHUP_NOROOM, r.taken);
+    for (k = 0; k < r.length; k++)
+        report[k] = r.octets[k];
+    return done(r.taken, r.length, r.count);
+}
+
+/* ---- For the makers of cases ---- */
+
+uint32_t reference_chips(uint32_t mode) { return radio_of(mode)->chips; }
+uint32_t reference_per_octet(uint32_t mode) { return radio_of(mode)->per_octet; }
+uint32_t reference_limit(uint32_t mode) { return radio_of(mode)->limit; }
+const uint8_t *reference_word(uint32_t mode, uint32_t value) { return radio_of(mode)->word[value]; }

@@ -1,0 +1,347 @@
+/* The speed measurement: the library beside the C baselines, in one run.
+ *
+ *   speed [repetitions]        at least 51, which is also what it does when not told
+ *
+ * Each repetition times every contestant once, in turn, and the next repetition begins one
+ * contestant later: whatever else the machine is doing then falls on all of them alike. A
+ * contestant works through 32 different frames of 127 octets, so that no processor knows them by
+ * heart. In the noisy frames each symbol has a random number of wrong chips, from none to as many
+ * as its radio accepts. Time is the processor's time of this thread, so that being set aside for
+ * another program isn't counted. Every answer is checked before anything is timed, and the sum of
+ * the answers each time after that; a wrong one ends the program with 1. A figure that was missed
+ * is only said, since it depends on the machine. */
+#define _POSIX_C_SOURCE 199309L
+#include <stdio.h>
+#include <stdlib.h>
+#include <string.h>
+#include <time.h>
+
+#include "baselines.h"
+
+enum { FRAMES = 32, OCTETS = LERNAZHUP_REPORT_MAX, LEAST_REPETITIONS = 51, MOST_REPETITIONS = 2001, WARM_UP = 3 };
+
+typedef lernazhup_reading reader(uint32_t, const uint8_t *, size_t, uint8_t *, size_t);
+typedef lernazhup_written writer(uint32_t, const uint8_t *, size_t, uint8_t *, size_t);
+typedef lernazhup_step pusher(lernazhup_receiver, const uint8_t *, size_t);
+
+static uint8_t reports[FRAMES][OCTETS];
+static uint8_t clean[2][FRAMES][LERNAZHUP_CHIPS_MAX];
+static uint8_t noisy[2][FRAMES][LERNAZHUP_CHIPS_MAX];
+static uint32_t wrong_chips[2][FRAMES];
+
+struct contestant {
+    const char *name;
+    reader *read;  /* one of the two is null */
+    writer *write;
+    int with_noise;
+    int reads;     /* whether the answer is a reading's, to be checked */
+    uint32_t mode;
+    uint32_t expected; /* what the work gives back */
+    double ns[MOST_REPETITIONS]; /* a chip, one for each repetition */
+};
+
+/* Chips of the longest frame. */
+static size_t frame_chips(uint32_t mode)
+{
+    return LERNAZHUP_FRAME_CHIPS(mode, OCTETS);
+}
+
+static uint32_t random_number(void)
+{
+    static uint64_t state = 0x9E3779B97F4A7C15;
+    state ^= state << 13;
+    state ^= state >> 7;
+    state ^= state << 17;
+    return (uint32_t)(state >> 32);
+}
+
+static void wrong(const char *name, uint32_t mode)
+{
+    fprintf(stderr, "speed: wrong answer: %s, mode %u\n", name, (unsigned)mode);
+    exit(1);
+}
+
+/* Inverts some chips of one symbol, at most the limit, no chip twice; returns how many. */
+static uint32_t spoil(uint8_t *chips, uint32_t mode)
+{
+    uint32_t wanted = random_number() % (LERNAZHUP_ACCEPTED(mode) + 1), inverted = 0, hit = 0;
+    while (inverted < wanted) {
+        uint32_t at = random_number() % LERNAZHUP_SYMBOL_CHIPS(mode);
+        if (hit >> at & 1)
+            continue;
+        hit |= UINT32_C(1) << at;
+        chips[at] ^= 1;
+        inverted++;
+    }
+    return inverted;
+}
+
+static void make_frame(uint32_t mode, size_t frame)
+{
+    size_t at;
+    lernazhup_written written = copying_write(mode, reports[frame], OCTETS, clean[mode][frame], frame_chips(mode));
+    if (written.number != LERNAZHUP_DONE || written.chips != frame_chips(mode))
+        wrong("copying_write", mode);
+    memcpy(noisy[mode][frame], clean[mode][frame], frame_chips(mode));
+    for (at = 0; at < frame_chips(mode); at += LERNAZHUP_SYMBOL_CHIPS(mode))
+        wrong_chips[mode][frame] += spoil(noisy[mode][frame] + at, mode);
+}
+
+static void make_frames(void)
+{
+    size_t frame, i;
+    for (frame = 0; frame < FRAMES; frame++) {
+        for (i = 0; i < OCTETS; i++)
+            reports[frame][i] = (uint8_t)random_number();
+        make_frame(0, frame);
+        make_frame(1, frame);
+    }
+}
+
+/* The receiver in a reader's clothes: start, push each symbol, take. */
+static lernazhup_reading stepped(pusher *push, uint32_t mode, const uint8_t *chips, size_t chips_len, uint8_t *report,
+                                 size_t report_len)
+{
+    lernazhup_step step = lernazhup_start(mode);
+    size_t length = LERNAZHUP_SYMBOL_CHIPS(mode), at;
+    for (at = 0; at + length <= chips_len && step.number == LERNAZHUP_MORE; at += length)
+        step = push(step.receiver, chips + at, length);
+    return lernazhup_take(step.receiver, report, report_len);
+}
+
+static lernazhup_reading stepping_read(uint32_t mode, const uint8_t *chips, size_t chips_len, uint8_t *report,
+                                       size_t report_len)
+{
+    return stepped(lernazhup_push, mode, chips, chips_len, report, report_len);
+}
+
+/* The same calls with a push that does nothing, for what the record by value takes alone. */
+static lernazhup_reading handing_read(uint32_t mode, const uint8_t *chips, size_t chips_len, uint8_t *report,
+                                      size_t report_len)
+{
+    return stepped(handing_push, mode, chips, chips_len, report, report_len);
+}
+
+static struct contestant contestants[] = {
+#define ONE(name, read, write, with_noise, mode) {name, read, write, with_noise, read != handing_read, mode, 0, {0}}
+#define BOTH(name, read, write, with_noise) ONE(name, read, write, with_noise, 0), ONE(name, read, write, with_noise, 1)
+    BOTH("lernazhup_read", lernazhup_read, NULL, 1),
+    BOTH("usual_read", usual_read, NULL, 1),
+    BOTH("usual_read, own popcount", usual_own_read, NULL, 1),
+    BOTH("lernazhup_read, no errors", lernazhup_read, NULL, 0),
+    BOTH("usual_read, no errors", usual_read, NULL, 0),
+    BOTH("lernazhup_write", NULL, lernazhup_write, 0),
+    BOTH("copying_write", NULL, copying_write, 0),
+    BOTH("receiver", stepping_read, NULL, 1),
+    BOTH("receiver, no errors", stepping_read, NULL, 0),
+    BOTH("record handed on", handing_read, NULL, 0),
+    BOTH("best_read", best_read, NULL, 1),
+    BOTH("best_read, no errors", best_read, NULL, 0),
+#undef BOTH
+#undef ONE
+};
+enum { CONTESTANTS = sizeof contestants / sizeof contestants[0] };
+
+static const uint8_t *chips_for(const struct contestant *contestant, size_t frame)
+{
+    return contestant->with_noise ? noisy[contestant->mode][frame] : clean[contestant->mode][frame];
+}
+
+static void check_reader(const struct contestant *contestant, size_t frame)
+{
+    uint32_t mode = contestant->mode, count = contestant->with_noise ? wrong_chips[mode][frame] : 0;
+    uint8_t report[OCTETS];
+    lernazhup_reading reading = contestant->read(mode, chips_for(contestant, frame), frame_chips(mode), report, OCTETS);
+    if (reading.number != LERNAZHUP_DONE || reading.place != frame_chips(mode) / LERNAZHUP_SYMBOL_CHIPS(mode) ||
+        reading.n != OCTETS || reading.count != count || memcmp(report, reports[frame], OCTETS) != 0)
+        wrong(contestant->name, mode);
+}
+
+static void check_writer(const struct contestant *contestant, size_t frame)
+{
+    static uint8_t chips[LERNAZHUP_CHIPS_MAX];
+    uint32_t mode = contestant->mode;
+    lernazhup_written written = contestant->write(mode, reports[frame], OCTETS, chips, frame_chips(mode));
+    if (written.number != LERNAZHUP_DONE || written.chips != frame_chips(mode) ||
+        memcmp(chips, clean[mode][frame], frame_chips(mode)) != 0)
+        wrong(contestant->name, mode);
+}
+
+/* The work that is timed. The sum of the answers is given back so that none can be left out. */
+static uint32_t work(const struct contestant *contestant)
+{
+    static uint8_t chips[LERNAZHUP_CHIPS_MAX], report[OCTETS];
+    uint32_t mode = contestant->mode, sum = 0;
+    size_t frame;
+    if (contestant->read != NULL)
+        for (frame = 0; frame < FRAMES; frame++)
+            sum += contestant->read(mode, chips_for(contestant, frame), frame_chips(mode), report, OCTETS).count;
+    else
+        for (frame = 0; frame < FRAMES; frame++)
+            sum += contestant->write(mode, reports[frame], OCTETS, chips, frame_chips(mode)).chips;
+    return sum;
+}
+
+static void check(struct contestant *contestant)
+{
+    size_t frame;
+    for (frame = 0; frame < FRAMES; frame++) {
+        if (!contestant->reads)
+            continue;
+        if (contestant->read != NULL)
+            check_reader(contestant, frame);
+        else
+            check_writer(contestant, frame);
+    }
+    contestant->expected = work(contestant);
+}
+
+/* Brings a reader's frames near the processor: whoever ran before has pushed some of them out, and
+ * a frame that has just been received is near. The work itself isn't run for it, since the
+ * processor would learn its branches. */
+static void fetch(const struct contestant *contestant)
+{
+    size_t frame, at;
+    for (frame = 0; contestant->read != NULL && frame < FRAMES; frame++) {
+        const volatile uint8_t *chips = chips_for(contestant, frame);
+        for (at = 0; at < frame_chips(contestant->mode); at += 64)
+            (void)chips[at];
+    }
+}
+
+/* Nanoseconds a chip. */
+static double timed(const struct contestant *contestant)
+{
+    struct timespec before, after;
+    uint32_t sum;
+    fetch(contestant);
+    clock_gettime(CLOCK_THREAD_CPUTIME_ID, &before);
+    sum = work(contestant);
+    clock_gettime(CLOCK_THREAD_CPUTIME_ID, &after);
+    if (sum != contestant->expected)
+        wrong(contestant->name, contestant->mode);
+    return ((double)(after.tv_sec - before.tv_sec) * 1e9 + (double)(after.tv_nsec - before.tv_nsec)) /
+           (double)(FRAMES * frame_chips(contestant->mode));
+}
+
+static void measure(int repetitions)
+{
+    int i, repetition;
+    for (repetition = -WARM_UP; repetition < repetitions; repetition++)
+        for (i = 0; i < CONTESTANTS; i++) {
+            struct contestant *contestant = &contestants[(i + repetition + WARM_UP) % CONTESTANTS];
+            double ns = timed(contestant);
+            if (repetition >= 0)
+                contestant->ns[repetition] = ns;
+        }
+}
+
+static const struct contestant *find(const char *name, uint32_t mode)
+{
+    int i;
+    for (i = 0; i < CONTESTANTS; i++)
+        if (strcmp(contestants[i].name, name) == 0 && contestants[i].mode == mode)
+            return &contestants[i];
+    return NULL;
+}
+
+static void print_machine(int repetitions)
+{
+    char line[256], model[256] = "unknown\n";
+    FILE *file = fopen("/proc/cpuinfo", "r");
+    while (file != NULL && fgets(line, sizeof line, file) != NULL)
+        if (sscanf(line, "model name : %255[^\n]", model) == 1)
+            break;
+    if (file != NULL)
+        fclose(file);
+    model[strcspn(model, "\n")] = 0;
+    printf("Machine: %s. Compiler of the C: %s.\n", model, __VERSION__);
+    printf("Frames of %d octets, %d of them; medians of %d interleaved repetitions.\n\n", OCTETS, FRAMES, repetitions);
+}
+
+static int rising(const void *a, const void *b)
+{
+    double x = *(const double *)a, y = *(const double *)b;
+    return (x > y) - (x < y);
+}
+
+/* The least and the median of a contestant's times, each divided by the other contestant's in the
+ * same repetition where one is given: a spell in which the machine is slow then has no say in the
+ * ratio. */
+static void summarise(const struct contestant *contestant, const struct contestant *over, int repetitions, double *least,
+                      double *median)
+{
+    static double sorted[MOST_REPETITIONS];
+    int i;
+    for (i = 0; i < repetitions; i++)
+        sorted[i] = over == NULL ? contestant->ns[i] : contestant->ns[i] / over->ns[i];
+    qsort(sorted, (size_t)repetitions, sizeof sorted[0], rising);
+    *least = sorted[0];
+    *median = sorted[repetitions / 2];
+}
+
+static void print_times(int repetitions)
+{
+    double least, median;
+    uint32_t mode;
+    int i;
+    printf("| mode | contestant | ns a chip | least | frames a second |\n|---|---|---|---|---|\n");
+    for (mode = 0; mode < 2; mode++)
+        for (i = 0; i < CONTESTANTS; i++)
+            if (contestants[i].mode == mode) {
+                summarise(&contestants[i], NULL, repetitions, &least, &median);
+                printf("| %u | %s | %.4f | %.4f | %.0f |\n", (unsigned)mode, contestants[i].name, median, least,
+                       1e9 / (median * (double)frame_chips(mode)));
+            }
+}
+
+/* A target of 0 is none. */
+static void print_ratio(const char *name, const char *against, double target, int repetitions)
+{
+    uint32_t mode;
+    for (mode = 0; mode < 2; mode++) {
+        const struct contestant *a = find(name, mode), *b = find(against, mode);
+        double unused, ratio, least_a, least_b;
+        if (a == NULL || b == NULL)
+            continue;
+        summarise(a, NULL, repetitions, &least_a, &unused);
+        summarise(b, NULL, repetitions, &least_b, &unused);
+        summarise(a, b, repetitions, &unused, &ratio);
+        printf("| %u | %s over %s | %.3f | %.3f |", (unsigned)mode, name, against, ratio, least_a / least_b);
+        if (target > 0)
+            printf(" at most %.2f | %s |\n", target, ratio <= target ? "met" : "missed");
+        else
+            printf(" none | |\n");
+    }
+}
+
+static void print_ratios(int repetitions)
+{
+    printf("\n| mode | ratio | median of the ratios | ratio of the least times | target for the median | |\n");
+    printf("|---|---|---|---|---|---|\n");
+    print_ratio("lernazhup_read", "usual_read", 0.60, repetitions);
+    print_ratio("lernazhup_read", "usual_read, own popcount", 0, repetitions);
+    print_ratio("lernazhup_write", "copying_write", 1.5, repetitions);
+    print_ratio("receiver", "lernazhup_read", 3.0, repetitions);
+    print_ratio("record handed on", "lernazhup_read", 0, repetitions);
+    print_ratio("lernazhup_read, no errors", "usual_read, no errors", 0, repetitions);
+    print_ratio("lernazhup_read", "best_read", 0, repetitions);
+    print_ratio("usual_read", "best_read", 0, repetitions);
+}
+
+int main(int argc, char **argv)
+{
+    int repetitions = argc > 1 ? atoi(argv[1]) : LEAST_REPETITIONS, i;
+    if (repetitions < LEAST_REPETITIONS)
+        repetitions = LEAST_REPETITIONS;
+    if (repetitions > MOST_REPETITIONS)
+        repetitions = MOST_REPETITIONS;
+    make_frames();
+    for (i = 0; i < CONTESTANTS; i++)
+        check(&contestants[i]);
+    measure(repetitions);
+    print_machine(repetitions);
+    print_times(repetitions);
+    print_ratios(repetitions);
+    return 0;
+}

@@ -1,0 +1,136 @@
+/* Carries distinct values through every field of every struct, into the library and back: where a
+ * field stood at another place on either side, some value would come back in another field. The
+ * layout itself is fixed in the header.
+ *
+ * A record that ended with a refusal may hold anything: finish and push give it back as it was,
+ * take repeats its number and place. The written, read and stepped numbers are worked out by hand
+ * from the frame. */
+#include <stdio.h>
+#include <string.h>
+
+#include "lernazhup.h"
+
+static int passed, failed;
+static const char *call = "";
+
+static void check(const char *what, unsigned long got, unsigned long want)
+{
+    if (got == want) {
+        passed++;
+    } else {
+        failed++;
+        printf("fields, %s, %s: %lu and not %lu\n", call, what, got, want);
+    }
+}
+
+/* A record ended by a made-up refusal: every field and octet another value, each byte of a number
+ * too. */
+static lernazhup_receiver filled(void)
+{
+    lernazhup_receiver r;
+    unsigned k;
+    memset(&r, 0, sizeof r);
+    r.mode = 0x11121314;
+    r.ended = 0x21222324;
+    r.taken = 0x31323334;
+    r.length = 0x41424344;
+    r.count = 0x51525354;
+    r.last = 0x61626364;
+    r.octet = 0x71727374;
+    for (k = 0; k < sizeof r.octets; k++)
+        r.octets[k] = (uint8_t)(0x80 + k);
+    return r;
+}
+
+static void same_record(lernazhup_receiver got, lernazhup_receiver want)
+{
+    check("mode", got.mode, want.mode);
+    check("ended", got.ended, want.ended);
+    check("taken", got.taken, want.taken);
+    check("length", got.length, want.length);
+    check("count", got.count, want.count);
+    check("last", got.last, want.last);
+    check("octet", got.octet, want.octet);
+    check("octets", (unsigned long)memcmp(got.octets, want.octets, sizeof got.octets), 0);
+}
+
+static void check_reading(lernazhup_reading got, uint32_t number, uint32_t place, uint32_t n, uint32_t count)
+{
+    check("number", got.number, number);
+    check("place", got.place, place);
+    check("n", got.n, n);
+    check("count", got.count, count);
+}
+
+/* Every field of a record that the library itself made: mode 1, five octets, three chips wrong. */
+static lernazhup_receiver stepped(const uint8_t *chips, size_t symbols)
+{
+    lernazhup_step step = lernazhup_start(1);
+    size_t k;
+    for (k = 0; k < symbols; k++)
+        step = lernazhup_push(step.receiver, chips + k * LERNAZHUP_SYMBOL_MODE1, LERNAZHUP_SYMBOL_MODE1);
+    return step.receiver;
+}
+
+static void made_by_the_library(void)
+{
+    static const uint8_t report[5] = {0x12, 0x34, 0x56, 0x78, 0x9A};
+    uint8_t chips[704], back[LERNAZHUP_REPORT_MAX];
+    lernazhup_receiver want;
+    lernazhup_written written = lernazhup_write(1, report, sizeof report, chips, sizeof chips);
+    call = "write";
+    check("number", written.number, LERNAZHUP_DONE);
+    check("chips", written.chips, 704);
+    written = lernazhup_write(1, report, sizeof report, chips, 703);
+    check("number of a refusal", written.number, LERNAZHUP_NOROOM);
+    check("chips of a refusal", written.chips, 0);
+    chips[0] ^= 1;
+    chips[33] ^= 1;
+    chips[34] ^= 1;
+    call = "read";
+    check_reading(lernazhup_read(1, chips, sizeof chips, back, sizeof back), LERNAZHUP_DONE, 22, 5, 3);
+    memset(&want, 0, sizeof want);
+    want.mode = 1;
+    want.ended = LERNAZHUP_MORE;
+    want.taken = 15;
+    want.length = 5;
+    want.count = 3;
+    /* the low half of 0x34, which has entered the octet in hand above the high half of 0x12 */
+    want.last = 4;
+    want.octet = 0x41;
+    want.octets[0] = 0x12;
+    call = "push";
+    same_record(stepped(chips, 15), want);
+    call = "take";
+    check_reading(lernazhup_take(stepped(chips, 22), back, sizeof back), LERNAZHUP_DONE, 22, 5, 3);
+    check("report", (unsigned long)memcmp(back, report, sizeof report), 0);
+}
+
+static void given_back(void)
+{
+    uint8_t part[LERNAZHUP_SYMBOL_MODE1] = {0};
+    lernazhup_receiver record = filled();
+    lernazhup_step step = lernazhup_finish(record);
+    call = "finish on an ended record";
+    check("number", step.number, LERNAZHUP_ENDED);
+    same_record(step.receiver, record);
+    step = lernazhup_push(record, part, sizeof part);
+    call = "push on an ended record";
+    check("number", step.number, LERNAZHUP_ENDED);
+    same_record(step.receiver, record);
+    call = "take of a refusal";
+    check_reading(lernazhup_take(record, part, sizeof part), record.ended, record.taken, 0, 0);
+    step = lernazhup_start(0x0A0B0C0D);
+    call = "start";
+    check("number", step.number, LERNAZHUP_BADMODE);
+    check("mode", step.receiver.mode, 0x0A0B0C0D);
+    check("ended", step.receiver.ended, LERNAZHUP_BADMODE);
+}
+
+int main(void)
+{
+    given_back();
+    made_by_the_library();
+    printf("fields: %d values carried, %d wrong\n", passed + failed, failed);
+    return failed != 0;
+}

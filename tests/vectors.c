@@ -1,0 +1,661 @@
+/* Readings and records, run over the archive and printed, a line each, to be compared with
+ * tests/vectors.said. Those lines were worked out from the rules of document 01 by a model that is
+ * not kept here, and not by this code (what a receiver holds between symbols, which the document
+ * doesn't say, from the definition).
+ *
+ * Places and lengths are tested before they are used. A case that didn't fit would print no line,
+ * and the comparison would show that. */
+#include <inttypes.h>
+#include <stdio.h>
+#include <string.h>
+
+#include "lernazhup.h"
+
+enum { LONGEST = 15960, REPORT = 127, LENT = 200 };
+
+/* What a lent buffer holds before each call. No octet that is sent has this value, so a stored one
+ * is a changed one. */
+enum { BEFORE = 0xEE };
+
+/* The highest number that a field can hold. */
+#define MOST UINT32_MAX
+
+/* Chips or octets that are lent and stay as they are. */
+struct slice {
+    const uint8_t *first;
+    size_t count;
+};
+
+static struct slice slice(const uint8_t *first, size_t count)
+{
+    return (struct slice){first, count};
+}
+
+/* ---- The radios ---- */
+
+/* Chips in a symbol, the accepted distance, and symbols of an octet. */
+struct radio {
+    uint32_t size, limit, per_octet;
+};
+
+static struct radio radio_of(uint32_t mode)
+{
+    static const struct radio radios[2] = {{15, 6, 8}, {32, 5, 2}};
+    return radios[mode != 0];
+}
+
+static uint32_t symbols_in(uint32_t mode, uint32_t octets)
+{
+    return octets * radio_of(mode).per_octet;
+}
+
+/* The place of an octet's first chip in the frame, which is also where the octet before it ends. */
+static size_t octet_at(uint32_t mode, uint32_t octet)
+{
+    return (size_t)symbols_in(mode, octet) * radio_of(mode).size;
+}
+
+/* ---- Frames ---- */
+
+/* Which frame is written, what is done to its chips, and how much of them and of the report buffer
+ * the reader is lent. It is written in one mode and read in another where the case is a mode
+ * without a radio. Changed are `count` chips from `at` on, and again after each `step` chips: a 0
+ * becomes `zero`, and all else `one`. */
+struct frame {
+    uint32_t written, read;
+    size_t octets, chips, room, at, count, step;
+    uint8_t zero, one;
+};
+
+/* The whole frame of so many octets, as it was written, with room for any report. The step is as
+ * long as the buffer, so a change is made once. */
+static struct frame frame_of(uint32_t mode, uint32_t octets)
+{
+    return (struct frame){.written = mode, .read = mode, .octets = octets, .chips = octet_at(mode, 6 + octets),
+                          .room = REPORT, .step = LONGEST, .one = 1};
+}
+
+static struct frame with_room(struct frame frame, size_t room)
+{
+    frame.room = room;
+    return frame;
+}
+
+static struct frame with_chips(struct frame frame, size_t chips)
+{
+    frame.chips = chips;
+    return frame;
+}
+
+static struct frame read_as(struct frame frame, uint32_t mode)
+{
+    frame.read = mode;
+    return frame;
+}
+
+/* One byte in the place of each of so many chips. */
+static struct frame put(struct frame frame, size_t at, size_t count, uint8_t byte)
+{
+    frame.at = at;
+    frame.count = count;
+    frame.zero = frame.one = byte;
+    return frame;
+}
+
+/* So many chips inverted. */
+static struct frame flip(struct frame frame, size_t at, size_t count)
+{
+    frame.at = at;
+    frame.count = count;
+    frame.zero = 1;
+    frame.one = 0;
+    return frame;
+}
+
+/* The same in every symbol from there on. */
+static struct frame every(struct frame frame, size_t size)
+{
+    frame.step = size;
+    return frame;
+}
+
+static void change(struct frame frame, uint8_t chips[LONGEST])
+{
+    size_t i;
+    if (frame.step == 0)
+        return;
+    for (i = frame.at; i < LONGEST; i++)
+        if ((i - frame.at) % frame.step < frame.count)
+            chips[i] = chips[i] == 0 ? frame.zero : frame.one;
+}
+
+/* Octets that differ from one to the next. */
+static uint8_t sample[REPORT];
+
+static void make_sample(void)
+{
+    size_t i;
+    for (i = 0; i < REPORT; i++)
+        sample[i] = (uint8_t)((i * 37 + 11) % 233);
+}
+
+/* The chips of a frame, its change made. Bytes behind the frame are 255, which is no chip. */
+static void make(struct frame frame, uint8_t chips[LONGEST])
+{
+    memset(chips, 255, LONGEST);
+    if (frame.octets > REPORT)
+        return;
+    lernazhup_write(frame.written, sample, frame.octets, chips, LONGEST);
+    change(frame, chips);
+}
+
+/* ---- What is printed of an answer ---- */
+
+static size_t changed(const uint8_t lent[LENT])
+{
+    size_t i, count = 0;
+    for (i = 0; i < LENT; i++)
+        count += lent[i] != BEFORE;
+    return count;
+}
+
+/* Whether the report is the one sent, and its octets. */
+static void tell(size_t n, struct slice sent, const uint8_t lent[LENT])
+{
+    size_t i;
+    if (n > LENT)
+        return;
+    printf(", %s [", n == sent.count && memcmp(lent, sent.first, n) == 0 ? "as sent" : "not as sent");
+    for (i = 0; i < n; i++)
+        printf("%02x", lent[i]);
+    printf("]");
+}
+
+/* The four numbers and what became of the lent buffer. The line goes on. */
+static void answered(lernazhup_reading reading, struct slice sent, const uint8_t lent[LENT])
+{
+    printf("%" PRIu32 " %" PRIu32 " %" PRIu32 " %" PRIu32 ", %zu changed", reading.number, reading.place, reading.n,
+           reading.count, changed(lent));
+    if (reading.number == LERNAZHUP_DONE)
+        tell(reading.n, sent, lent);
+}
+
+/* ---- Readings ---- */
+
+static lernazhup_reading receive(uint32_t mode, struct slice chips, uint8_t *report, size_t room)
+{
+    size_t size = radio_of(mode).size, at;
+    lernazhup_receiver record = lernazhup_start(mode).receiver;
+    for (at = 0; record.ended == LERNAZHUP_MORE && chips.count - at >= size; at += size)
+        record = lernazhup_push(record, chips.first + at, size).receiver;
+    if (record.ended == LERNAZHUP_MORE)
+        record = lernazhup_finish(record).receiver;
+    return lernazhup_take(record, report, room);
+}
+
+/* Whether the same chips pushed symbol by symbol give the same numbers and leave the same bytes. */
+static int agrees(uint32_t mode, struct slice chips, lernazhup_reading reading, const uint8_t lent[LENT])
+{
+    uint8_t other[LENT];
+    lernazhup_reading pushed;
+    memset(other, BEFORE, LENT);
+    pushed = receive(mode, chips, other, REPORT);
+    return memcmp(other, lent, LENT) == 0 && pushed.number == reading.number && pushed.place == reading.place &&
+           pushed.n == reading.n && pushed.count == reading.count;
+}
+
+/* Reads the chips into so many bytes of the lent buffer. A receiver asks for room at the end and a
+ * reader at the length octet, so the two are compared where there is room for any report. */
+static void read_line(const char *what, uint32_t mode, struct slice chips, struct slice sent, size_t room)
+{
+    uint8_t lent[LENT];
+    lernazhup_reading reading;
+    if (room > LENT)
+        return;
+    memset(lent, BEFORE, LENT);
+    reading = lernazhup_read(mode, chips.first, chips.count, lent, room);
+    printf("%s: read %" PRIu32 " chips %zu room %zu gives ", what, mode, chips.count, room);
+    answered(reading, sent, lent);
+    if (room == REPORT)
+        printf(", pushed %s", agrees(mode, chips, reading, lent) ? "the same" : "otherwise");
+    printf("\n");
+}
+
+/* Reads a frame after its change and then that of another. */
+static void twice(const char *what, struct frame frame, struct frame then)
+{
+    uint8_t chips[LONGEST];
+    if (frame.octets > REPORT || frame.chips > LONGEST)
+        return;
+    make(frame, chips);
+    change(then, chips);
+    read_line(what, frame.read, slice(chips, frame.chips), slice(sample, frame.octets), frame.room);
+}
+
+static void line(const char *what, struct frame frame)
+{
+    twice(what, frame, flip(frame, 0, 0));
+}
+
+/* Less room than the report needs, just enough, and more. */
+static void rooms(uint32_t mode)
+{
+    struct frame none = frame_of(mode, 0), five = frame_of(mode, 5), longest = frame_of(mode, 127);
+    line("room exact", with_room(none, 0));
+    line("room for any report", none);
+    line("room left over", with_room(none, 200));
+    line("room one short", with_room(five, 4));
+    line("room exact", with_room(five, 5));
+    line("room for any report", five);
+    line("room one short", with_room(longest, 126));
+    line("room exact", longest);
+    line("room left over", with_room(longest, 200));
+}
+
+/* What stands behind the frame is lent to the reader as well, and must not be looked at. */
+static void behind(uint32_t mode)
+{
+    line("bytes 255 behind the frame", with_chips(frame_of(mode, 0), LONGEST));
+    line("bytes 255 behind the frame", with_chips(frame_of(mode, 5), LONGEST));
+}
+
+/* Frames that end too early. On the last symbol of the length octet too little room is refused,
+ * though no chip comes after it. */
+static void cuts(uint32_t mode)
+{
+    struct frame none = frame_of(mode, 0), five = frame_of(mode, 5);
+    struct frame header_only = with_chips(five, none.chips), cut = with_chips(five, five.chips - 1);
+    size_t size = radio_of(mode).size;
+    line("no chips", with_chips(five, 0));
+    line("first symbol cut", with_chips(five, size - 1));
+    line("cut after the length octet", header_only);
+    line("cut after the length octet, room one short", with_room(header_only, 4));
+    line("cut in a symbol of the report", with_chips(five, octet_at(mode, 9) - 1));
+    line("last symbol cut", with_chips(none, none.chips - 1));
+    line("last symbol cut", cut);
+    line("last symbol cut, byte 255 in it", put(cut, five.chips - size, 1, 255));
+}
+
+/* The lowest and the highest byte that is no chip. */
+static void bytes(uint32_t mode)
+{
+    struct frame five = frame_of(mode, 5);
+    size_t inside = octet_at(mode, 8) + 7, last = five.chips - 1;
+    line("byte 2, first chip", put(five, 0, 1, 2));
+    line("byte 255, first chip", put(five, 0, 1, 255));
+    line("byte 2 in the report", put(five, inside, 1, 2));
+    line("byte 255 in the report", put(five, inside, 1, 255));
+    line("byte 2, last chip", put(five, last, 1, 2));
+    line("byte 255, last chip", put(five, last, 1, 255));
+}
+
+/* Symbols of one byte over and over. Flat 2 and flat 255 lie past the limit from every word as
+ * well, whether the places that differ are counted, or those of the lowest bits, or the differences
+ * are added up, even where that sum wraps in a byte: a reader that looked for a word before it
+ * looked at the bytes would answer 6 there. */
+static void flats(uint32_t mode)
+{
+    struct frame five = frame_of(mode, 5);
+    size_t size = radio_of(mode).size, start = octet_at(mode, 4), length = octet_at(mode, 6) - size;
+    size_t inside = octet_at(mode, 8);
+    line("flat 0 first", put(five, 0, size, 0));
+    line("flat 1 first", put(five, 0, size, 1));
+    line("flat 0 in the start octet", put(five, start, size, 0));
+    line("flat 1 in the start octet", put(five, start, size, 1));
+    line("flat 0 in the length octet", put(five, length, size, 0));
+    line("flat 1 in the length octet", put(five, length, size, 1));
+    line("flat 0 in the report", put(five, inside, size, 0));
+    line("flat 1 in the report", put(five, inside, size, 1));
+    line("flat 2 in the report", put(five, inside, size, 2));
+    line("flat 255 in the report", put(five, inside, size, 255));
+}
+
+/* As many errors as a symbol may have, and one more. Nine make a mode 0 word read as the other. */
+static void limits(uint32_t mode)
+{
+    struct frame five = frame_of(mode, 5);
+    size_t size = radio_of(mode).size, most = radio_of(mode).limit, more = most + 1;
+    size_t inside = octet_at(mode, 8), end = inside + size;
+    line("first chips wrong at the start, at the limit", flip(five, 0, most));
+    line("first chips wrong at the start, past the limit", flip(five, 0, more));
+    line("first chips wrong in the report, at the limit", flip(five, inside, most));
+    line("first chips wrong in the report, past the limit", flip(five, inside, more));
+    line("last chips wrong in the report, at the limit", flip(five, end - most, most));
+    line("last chips wrong in the report, past the limit", flip(five, end - more, more));
+    line("nine errors in the last symbol", flip(five, five.chips - size, 9));
+}
+
+/* Errors in every symbol. */
+static void everywhere(uint32_t mode, uint32_t octets)
+{
+    struct frame frame = frame_of(mode, octets);
+    size_t size = radio_of(mode).size, most = radio_of(mode).limit;
+    struct frame firsts = every(flip(frame, 0, most), size), lasts = every(flip(frame, size - most, most), size);
+    line("first chips of every symbol wrong, at the limit", firsts);
+    line("last chips of every symbol wrong, at the limit", lasts);
+    twice("first chips of every symbol wrong, past the limit in the last", firsts, flip(frame, frame.chips - 1, 1));
+}
+
+/* Mode 0 tells a word from its inverse only by the word before it: inverted from the first symbol
+ * on, the preamble isn't zero; from the report on, one bit differs. */
+static void inverted(uint32_t mode)
+{
+    struct frame five = frame_of(mode, 5);
+    line("every chip inverted", flip(five, 0, five.chips));
+    line("every chip of the report inverted", flip(five, octet_at(mode, 6), five.chips));
+}
+
+/* Refusals in the last symbol of 127 octets, when all the others are read. */
+static void at_the_end(uint32_t mode)
+{
+    struct frame longest = frame_of(mode, 127);
+    size_t size = radio_of(mode).size, symbol = longest.chips - size, chip = longest.chips - 1;
+    line("flat 0 last", put(longest, symbol, size, 0));
+    line("flat 1 last", put(longest, symbol, size, 1));
+    line("byte 2, last chip", put(longest, chip, 1, 2));
+    line("last symbol cut", with_chips(longest, chip));
+}
+
+/* Any last preamble octet, start octet and length octet before a report of one octet. All seven are
+ * sent as a report and read from there on: a length of 7 brings the chain of mode 0 back to 0,
+ * where a frame starts. */
+static void header(const char *what, uint32_t mode, size_t room, uint8_t preamble, uint8_t start, uint8_t length)
+{
+    const uint8_t octets[7] = {0, 0, 0, preamble, start, length, 0x41};
+    uint8_t chips[LONGEST];
+    size_t from = octet_at(mode, 6), to = octet_at(mode, 13);
+    memset(chips, 255, LONGEST);
+    lernazhup_write(mode, octets, sizeof octets, chips, LONGEST);
+    read_line(what, mode, slice(chips + from, to - from), slice(octets + 6, 1), room);
+}
+
+static void headers(uint32_t mode)
+{
+    header("octets of a frame", mode, 127, 0, 0xA7, 1);
+    header("last symbol of the preamble not 0", mode, 127, 0x80, 0xA7, 1);
+    header("start octet 0xE5", mode, 127, 0, 0xE5, 1);
+    header("length octet 1, no room", mode, 0, 0, 0xA7, 1);
+    header("length octet 0x81", mode, 127, 0, 0xA7, 0x81);
+    header("length octet 0x81, no room", mode, 0, 0, 0xA7, 0x81);
+    header("length octet 0x80, no room", mode, 0, 0, 0xA7, 0x80);
+}
+
+/* Modes that have no radio. Cut to 8 or 16 bits, 256 and 65536 would be mode 0, whose frame is
+ * read, and 257 and 65537 mode 1. */
+static void no_radio(void)
+{
+    struct frame zero = frame_of(0, 127), one = frame_of(1, 127);
+    line("no such mode", read_as(zero, 2));
+    line("no such mode", read_as(zero, 256));
+    line("no such mode", read_as(zero, 65536));
+    line("no such mode", read_as(zero, MOST));
+    line("no such mode", read_as(one, 257));
+    line("no such mode", read_as(one, 65537));
+    line("no such mode, no chips, no room", with_room(with_chips(read_as(zero, 2), 0), 0));
+}
+
+/* A report of five octets is octets 6 to 10 of its frame; one of 127 ends before octet 133. */
+static void readings_of(uint32_t mode)
+{
+    rooms(mode);
+    behind(mode);
+    cuts(mode);
+    bytes(mode);
+    flats(mode);
+    limits(mode);
+    everywhere(mode, 5);
+    everywhere(mode, 127);
+    inverted(mode);
+    at_the_end(mode);
+    headers(mode);
+}
+
+/* ---- A record, and what the calls make of it ---- */
+
+/* The fields lie side by side, as the header fixes; only behind the octets is a byte of padding. */
+static int same_record(lernazhup_receiver a, lernazhup_receiver b)
+{
+    return memcmp(&a, &b, offsetof(lernazhup_receiver, octets) + sizeof a.octets) == 0;
+}
+
+/* A call's number, and whether the record that it gave back is the same, the same but for being
+ * ended with that number, or another. */
+static void answer(const char *call, lernazhup_receiver before, lernazhup_step step)
+{
+    lernazhup_receiver ended = before;
+    ended.ended = step.number;
+    printf("%s %" PRIu32 " ", call, step.number);
+    printf("%s", same_record(before, step.receiver) ? "same" : same_record(ended, step.receiver) ? "ended" : "other");
+}
+
+/* What take gives with so much room, compared with as many of the octets that are sent. */
+static void took(lernazhup_receiver record, size_t room)
+{
+    uint8_t lent[LENT];
+    lernazhup_reading reading;
+    if (room > LENT)
+        return;
+    memset(lent, BEFORE, LENT);
+    reading = lernazhup_take(record, lent, room);
+    if (reading.n > REPORT)
+        return;
+    printf(", take %zu gives ", room);
+    answered(reading, slice(sample, reading.n), lent);
+}
+
+/* The record's numbers, what each call makes of it, and what take gives with so much room. */
+static void probe(const char *what, lernazhup_receiver record, struct slice part, size_t room)
+{
+    printf("%s: record %" PRIu32 " %" PRIu32 " %" PRIu32 " %" PRIu32, what, record.mode, record.ended, record.taken,
+           record.length);
+    printf(" %" PRIu32 " %" PRIu32 " %" PRIu32, record.count, record.last, record.octet);
+    answer(", push", record, lernazhup_push(record, part.first, part.count));
+    answer(", push of none", record, lernazhup_push(record, NULL, 0));
+    answer(", finish", record, lernazhup_finish(record));
+    took(record, room);
+    printf("\n");
+}
+
+/* A record, and what becomes of it by one symbol more and by none: each taken into other room. */
+static void fates(const char *what, lernazhup_receiver record, struct slice part)
+{
+    probe(what, record, part, 126);
+    probe("pushed", lernazhup_push(record, part.first, part.count).receiver, part, 127);
+    probe("finished", lernazhup_finish(record).receiver, part, 200);
+}
+
+/* ---- Frames pushed symbol by symbol, with stray calls between ---- */
+
+/* How many answers of each number came, and how many stray calls changed a record or lent bytes. */
+struct tally {
+    unsigned times[14], changed;
+};
+
+static void count_answer(struct tally *tally, uint32_t number, int kept)
+{
+    if (number < 14)
+        tally->times[number]++;
+    tally->changed += !kept;
+}
+
+static void count_stray(struct tally *tally, lernazhup_receiver before, lernazhup_step step)
+{
+    count_answer(tally, step.number, same_record(before, step.receiver));
+}
+
+/* Calls that leave an open record as it is: take, and push of one chip less than a symbol, one more
+ * and none. */
+static void stray(struct tally *tally, lernazhup_receiver record, const uint8_t chips[LONGEST], size_t size)
+{
+    uint8_t lent[LENT];
+    lernazhup_reading reading;
+    memset(lent, BEFORE, LENT);
+    reading = lernazhup_take(record, lent, REPORT);
+    count_answer(tally, reading.number, changed(lent) == 0);
+    count_stray(tally, record, lernazhup_push(record, chips, size - 1));
+    count_stray(tally, record, lernazhup_push(record, chips, size + 1));
+    count_stray(tally, record, lernazhup_push(record, NULL, 0));
+}
+
+/* Starts and pushes the symbols before a place, with stray calls before each of them, and with two
+ * more where the record has ended. The line goes on. */
+static lernazhup_receiver pushed(const char *what, uint32_t mode, const uint8_t chips[LONGEST], size_t end)
+{
+    size_t size = radio_of(mode).size, at;
+    struct tally tally = {{0}, 0};
+    lernazhup_receiver record = lernazhup_start(mode).receiver;
+    for (at = 0; end - at >= size; at += size) {
+        lernazhup_step step;
+        stray(&tally, record, chips, size);
+        step = lernazhup_push(record, chips + at, size);
+        count_answer(&tally, step.number, 1);
+        record = step.receiver;
+    }
+    if (record.ended != LERNAZHUP_MORE) {
+        count_stray(&tally, record, lernazhup_push(record, chips, size));
+        count_stray(&tally, record, lernazhup_finish(record));
+    }
+    printf("%s: %u times 13, %u times 0, %u times 10, %u times 11, %u times 12, %u changed", what, tally.times[13],
+           tally.times[0], tally.times[10], tally.times[11], tally.times[12], tally.changed);
+    return record;
+}
+
+/* The symbols before one place pushed, and then the symbol at another. */
+static void story(const char *what, struct frame frame, size_t end, size_t from)
+{
+    uint8_t chips[LONGEST];
+    size_t size = radio_of(frame.read).size;
+    if (end > LONGEST || from > LONGEST - size)
+        return;
+    make(frame, chips);
+    fates(", then", pushed(what, frame.read, chips, end), slice(chips + from, size));
+}
+
+/* Frames pushed whole, cut, and with a refusal of each kind. The last three have another symbol of
+ * the frame in the place of one that a rule looks at: the first of the start octet as the last of
+ * the preamble, the first of all as the last of the start octet, and the first of the report as the
+ * last of the length octet, where it sets the top bit. */
+static void stories(uint32_t mode)
+{
+    struct frame five = frame_of(mode, 5), longest = frame_of(mode, 127);
+    size_t size = radio_of(mode).size, limit = radio_of(mode).limit;
+    size_t start = octet_at(mode, 4), length = octet_at(mode, 5), report = octet_at(mode, 6);
+    size_t inside = octet_at(mode, 8), next = inside + size;
+    story("whole frame", five, five.chips, 0);
+    story("longest frame at the limit", every(flip(longest, 0, limit), size), longest.chips, 0);
+    story("cut in an octet of the report", five, next, next);
+    story("byte 2 in the report", put(five, inside + 7, 1, 2), inside, inside);
+    story("flat symbol in the report", put(five, inside, size, 0), inside, inside);
+    story("preamble not zero", five, start - size, start);
+    story("wrong start octet", five, length - size, 0);
+    story("reserved bit set", five, report - size, report);
+}
+
+/* ---- Made-up records ---- */
+
+/* A new record, compared with one that is 0 but for the mode and the number. What is pushed is no
+ * symbol of a radio. */
+static void started(uint32_t mode)
+{
+    static const uint8_t byte[1] = {'0'};
+    lernazhup_step step = lernazhup_start(mode);
+    lernazhup_receiver blank = {.mode = mode, .ended = step.number};
+    answer("start", blank, step);
+    probe(", then", step.receiver, slice(byte, 1), 127);
+}
+
+/* A made-up record holds the octets that are sent. */
+static lernazhup_receiver made_up(uint32_t mode, uint32_t ended, uint32_t taken, uint32_t length, uint32_t count)
+{
+    lernazhup_receiver record = {.mode = mode, .ended = ended, .taken = taken, .length = length, .count = count};
+    memcpy(record.octets, sample, sizeof record.octets);
+    return record;
+}
+
+/* An open record, and one that has ended well by a symbol more, as far from its word as it may be;
+ * a mode without a radio has no such distance. */
+static void both(const char *what, uint32_t mode, uint32_t taken, uint32_t length, uint32_t count, struct slice part)
+{
+    uint32_t limit = mode < 2 ? radio_of(mode).limit : 0;
+    probe(what, made_up(mode, LERNAZHUP_MORE, taken, length, count), part, 127);
+    probe(what, made_up(mode, LERNAZHUP_DONE, taken + 1, length, count + limit), part, 127);
+}
+
+/* Symbols taken and chips repaired at the ends of what is allowed for a length, and past them. */
+static void edges(uint32_t mode, uint32_t length, struct slice part)
+{
+    uint32_t total = symbols_in(mode, 6 + length), last = total - 1, most = last * radio_of(mode).limit;
+    both("one symbol less", mode, last - 1, length, 0, part);
+    both("as many symbols", mode, last, length, 0, part);
+    both("one symbol more", mode, total, length, 0, part);
+    both("count at the limit", mode, last, length, most, part);
+    both("count past it", mode, last, length, most + 1, part);
+}
+
+/* Records with a number that no frame has, and records ended by a refusal, which may hold anything.
+ * Cut to 8 bits, 256 and 257 would be modes 0 and 1, and a length of 256 would be 0; with length
+ * 4294967295 the total, cut to 32 bits, would be the symbols of five octets; and a record 65536
+ * symbols past its end would be complete. A record of no mode with nothing taken fails no test but
+ * that of the mode. */
+static void strange(uint32_t mode, struct slice part)
+{
+    uint32_t open = LERNAZHUP_MORE, well = LERNAZHUP_DONE;
+    uint32_t five = symbols_in(mode, 11) - 1, far = five + 65537;
+    both("no such mode", 2, five, 5, 0, part);
+    both("no such mode", 256, five, 5, 0, part);
+    both("no such mode", 257, five, 5, 0, part);
+    both("no such mode", MOST, five, 5, 0, part);
+    both("length 128", mode, symbols_in(mode, 134) - 1, 128, 0, part);
+    both("length wraps", mode, symbols_in(mode, 5) - 1, MOST, 0, part);
+    probe("no such mode", made_up(2, well, 0, 0, 0), part, 127);
+    probe("length 256", made_up(mode, open, 0, 256, 0), part, 127);
+    probe("far", made_up(mode, well, far, 5, 0), part, 127);
+    probe("most", made_up(mode, open, MOST, 127, MOST), part, 127);
+    probe("most", made_up(mode, well, MOST, 127, MOST), part, 127);
+    probe("refused", made_up(9, 77, MOST, MOST, MOST), part, 127);
+    probe("refused", made_up(9, 10, MOST, MOST, MOST), part, 127);
+    probe("refused", made_up(9, 34, MOST, MOST, MOST), part, 127);
+}
+
+/* A record that no test refuses, at the last symbol of an octet, with a symbol before it, odd or
+ * even, and an octet in hand that no symbol brings: of such numbers the lowest bits count. */
+static void hand(uint32_t mode, uint32_t octet, uint32_t length, struct slice part)
+{
+    lernazhup_receiver record = made_up(mode, LERNAZHUP_MORE, symbols_in(mode, 1 + octet) - 1, length, 0);
+    record.last = MOST - octet;
+    record.octet = MOST;
+    fates("strange in hand", record, part);
+}
+
+/* The first symbol of a frame is what is pushed to made-up records. */
+static void records_of(uint32_t mode)
+{
+    uint8_t chips[LONGEST];
+    struct slice part = slice(chips, radio_of(mode).size);
+    make(frame_of(mode, 0), chips);
+    started(mode);
+    stories(mode);
+    edges(mode, 0, part);
+    edges(mode, 127, part);
+    strange(mode, part);
+    hand(mode, 0, 0, part);
+    hand(mode, 4, 0, part);
+    hand(mode, 5, 0, part);
+    hand(mode, 10, 5, part);
+}
+
+int main(void)
+{
+    make_sample();
+    readings_of(0);
+    readings_of(1);
+    no_radio();
+    records_of(0);
+    records_of(1);
+    /* cut to 8 or 16 bits, 256 and 65536 would be mode 0 */
+    started(2);
+    started(256);
+    started(65536);
+    started(MOST);
+    return 0;
+}
