@@ -126,8 +126,8 @@ static lernazhup_receiver all_random(void)
 }
 
 /* The number of symbols taken: around a place where something is decided, and at times so large
- * that products with it wrap. */
-static uint32_t edge_taken(uint32_t per_octet, uint32_t length)
+ * that their product with the accepted distance wraps. */
+static uint32_t edge_taken(uint32_t per_octet, uint32_t limit, uint32_t length)
 {
     uint32_t total = (6 + length) * per_octet, octet = pick(7);
 
@@ -143,7 +143,7 @@ static uint32_t edge_taken(uint32_t per_octet, uint32_t length)
     case 4:
         return (4 + octet % 3) * per_octet - 1;
     case 5:
-        return chance(50) ? 0xFFFFFFFF / 6 + pick(total) : 0xFFFFFFFF / 5 + pick(total);
+        return 0xFFFFFFFF / limit + pick(total);
     case 6:
         return pick((length + 1) * per_octet) + 5 * per_octet;
     default:
@@ -162,7 +162,7 @@ static lernazhup_receiver at_edges(void)
     per_octet = reference_per_octet(record.mode);
     limit = reference_limit(record.mode);
     record.length = chance(30) ? 124 + pick(6) : pick(chance(50) ? 4 : 128);
-    record.taken = edge_taken(per_octet, record.length);
+    record.taken = edge_taken(per_octet, limit, record.length);
     record.ended = chance(65) ? LERNAZHUP_MORE : LERNAZHUP_DONE;
     if (record.ended == LERNAZHUP_DONE && chance(70))
         record.taken = (6 + record.length) * per_octet;

@@ -1,5 +1,5 @@
 # What the tests of this folder share. Each begins with
-#     name=..; . "${0%/*}/common.sh"
+#     name=..; . "$(dirname "$0")/common.sh"
 # and is then at the project's root, with $room, a folder of its own that goes when it ends. Each
 # case that goes wrong is a line; `counts` says how many there were and fails where one went wrong.
 unset CDPATH
@@ -29,8 +29,8 @@ counts() {
 }
 
 # frame NUMBER: the chips, as digits, of that one of the frames in crates/vectors, which were made
-# of the draft standard's tables: 1 and 2 are the empty report's in modes 0 and 1, 3 and 4 "rope 12
-# wet"
+# of the draft standard's tables: 1 and 2 are the empty report's in modes 0 and 1, 3 and 4 "rope
+# 12 wet"
 frame() {
     grep -E '^[01]+$' crates/vectors/stdout | sed -n "$1p" | tr -d '\n'
 }

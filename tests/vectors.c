@@ -33,15 +33,15 @@ static struct slice slice(const uint8_t *first, size_t count)
 
 /* ---- The radios ---- */
 
-/* Chips in a symbol, the accepted distance, and symbols of an octet. */
+/* Chips in a symbol, the accepted distance, and symbols of an octet; mode 1's where none has it. */
 struct radio {
     uint32_t size, limit, per_octet;
 };
 
 static struct radio radio_of(uint32_t mode)
 {
-    static const struct radio radios[2] = {{15, 6, 8}, {32, 5, 2}};
-    return radios[mode != 0];
+    uint32_t known = mode != 0, size = LERNAZHUP_SYMBOL_CHIPS(known);
+    return (struct radio){size, LERNAZHUP_ACCEPTED(known), LERNAZHUP_FRAME_CHIPS(known, 0) / 6 / size};
 }
 
 static uint32_t symbols_in(uint32_t mode, uint32_t octets)

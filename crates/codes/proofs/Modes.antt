@@ -1,5 +1,5 @@
--- What is true of each radio is true of a mode's, and what tests of a mode number leave. Assumes
--- nothing.
+-- What is true of each radio is true of a mode's, and what tests of a mode number leave.
+-- Assumes nothing.
 use mathlib.Core.Path.{_≡_, sym, _∙_}
 use mathlib.Core.Bool.{true, false}
 use Prim.Native.Nat.{ℕ, zero, suc}

@@ -1,7 +1,7 @@
 -- What the documents print, against the definitions, by computation: the numbers given back, and
--- the code words as source document 000 has them. With two names exchanged, or words turned left,
--- in definition and code alike, every promise and every distance would be the same. Assumes
--- nothing.
+-- the code words as source document 000 has them. With two names exchanged, or words turned
+-- left, in definition and code alike, every promise and every distance would be the same.
+-- Assumes nothing.
 use mathlib.Core.Path.{_≡_, refl}
 use mathlib.Core.List.{List, [], _∷_, map}
 use Prim.Native.Nat.{ℕ, zero, suc, _/_, _%_, _^_}

@@ -1,6 +1,6 @@
 -- Not to be believed: what the code computes, shown equal to `Symbol` in proofs/Equal.antt where
--- the lent table is the radio's. Windows are functions and sums recurse at their end, as the loops
--- run.
+-- the lent table is the radio's. Windows are functions and sums recurse at their end, as the
+-- loops run.
 use Prim.Native.Nat.{ℕ, zero, suc, _+_, _*_, _%_, _^_}
 use mathlib.Core.List.{List}
 use lib.ListN.{length, getD, take, drop}

@@ -37,8 +37,8 @@ valued r chips v =
 unfoldable pub symbolOf : Radio → List ℕ → Symbol
 symbolOf r chips = pick (bad chips) (refused NOCHIP) (valued r chips (first (within r chips) 0 (length (r .words))))
 
--- the symbol of a mode's radio that begins at a place of a chip buffer; for a mode that has no radio
--- 1, mode is neither 0 nor 1. Then
+-- the symbol of a mode's radio that begins at a place of a chip buffer.
+-- A mode that has no radio: 1. Then
 -- 1. Fewer chips left than one symbol: 4.
 unfoldable pub symbolAt : ℕ → List ℕ → ℕ → Symbol
 symbolAt mode chips at =

@@ -49,8 +49,8 @@ pub const MORE: u32 = 13;
 
 pub const FORGED: u32 = 34;
 
-// What one symbol's chips say: `number` 0 with the word's value and its distance, or a refusal with
-// zeros.
+// What one symbol's chips say: `number` 0 with the word's value and its distance, or a refusal
+// with zeros.
 pub struct Symbol {
     pub number: u32,
     pub value: u32,

@@ -1,8 +1,8 @@
-// The code words, chip by chip, and the table that readers and writers of many symbols lend: a
-// constant array is built anew at each use, so a caller copies it once. The rule of the words
-// stands in specs/Radio.antt; that all these numbers follow it is one test that the checker
-// computes (proofs/tables/table/Proof.antt), and a lemma carries it to each chip
-// (proofs/Rule.antt).
+// The code words, chip by chip, and the table that readers and writers of many symbols
+// lend: a constant array is built anew at each use, so a caller copies it once. The rule of
+// the words stands in specs/Radio.antt; that all these numbers follow it is one test that
+// the checker computes (proofs/tables/table/Proof.antt), and a lemma carries it to each
+// chip (proofs/Rule.antt).
 ghost use mathlib.Core.Path.{_≡_};
 ghost use Rattle.codes.specs.Lent.{tableAt, tableOf};
 ghost use Rattle.codes.specs.Radio.{bpsk};
@@ -557,8 +557,8 @@ const OQPSK: [u8; 512] = [
     0,
 ];
 
-// The words of a mode's radio one after the other, then zeros; all zeros for a mode that has no
-// radio.
+// The words of a mode's radio one after the other, then zeros; all zeros for a mode that has
+// no radio.
 pub fn table(mode: u32) -> [u8; 512]
     ensures { λ r. ⌜ r ≡ tableAt mode ⌝ }
 {

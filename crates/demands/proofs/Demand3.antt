@@ -1,10 +1,10 @@
--- Demand 3. With room, the reading answers a report and a count exactly when the buffer begins with
--- 0/1 chips that differ from that report's frame in at most the limit of places of each symbol, and
--- the count is the distance of the whole prefix from the whole frame. For every sound radio, both
--- directions; that it is a report (at most 127 numbers below 256) is concluded in one and supposed
--- in the other. Besides: the count is the sum of the differences in the symbols' windows, the place
--- of an answer is the number of the frame's symbols, and an answered report has room. Assumes
--- nothing.
+-- Demand 3. With room, the reading answers a report and a count exactly when the buffer begins
+-- with 0/1 chips that differ from that report's frame in at most the limit of places of each
+-- symbol, and the count is the distance of the whole prefix from the whole frame. For every sound
+-- radio, both directions; that it is a report (at most 127 numbers below 256) is concluded in one
+-- and supposed in the other. Besides: the count is the sum of the differences in the symbols'
+-- windows, the place of an answer is the number of the frame's symbols, and an answered report has
+-- room. Assumes nothing.
 use mathlib.Core.Path.{_≡_, _∙_}
 use mathlib.Core.Logic.{_↔_}
 use mathlib.Core.List.{List}

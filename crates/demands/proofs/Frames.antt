@@ -56,8 +56,8 @@ near-same r S chips others report count h e n =
       sum = rw (← e) (n .sum);
     }
 
--- The distance of a whole prefix from a frame is the sum of the distances of the windows of its
--- symbols.
+-- The distance of a whole prefix from a frame is the sum of the distances of the windows of
+-- its symbols.
 pub sum-of-windows : (r : Radio) → Sound r → (chips report : List ℕ) → length (frame r report) ≤ length chips
     → distance (take (length (frame r report)) chips) (frame r report) ≡ differences r chips (frame r report) (length (symbols r report))
 sum-of-windows r S chips report h =

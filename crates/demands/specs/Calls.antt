@@ -79,8 +79,8 @@ FaultyWell c = Faulty (λ total. c .taken ≡ total → ⊥) c
 abbrev pub tells : ℕ → ℕ → List ℕ → Outcome Reading
 tells x place buffer = outcome (record { number = x; place = place; n = 0; count = 0 }) buffer
 
--- Every call gives the record back as it was: push and finish with one number, take with one at a
--- place.
+-- Every call gives the record back as it was: push and finish with one number, take with one at
+-- a place.
 pub record Idle (c : Receiver) (x y place : ℕ) : Type 0 where
   pub pushed : (part : List ℕ) → pushOf c part ≡ step x c
   pub finished : finishOf c ≡ step x c

@@ -44,8 +44,8 @@ success mode buffer report count =
     (report ++ drop (length report) buffer)
 
 -- A number given back stands where the reading order lets it, in a frame with so many symbols an
--- octet: 7 in the preamble, 8 on the last symbol of the start octet, 9 and 3 on that of the length
--- octet.
+-- octet: 7 in the preamble, 8 on the last symbol of the start octet, 9 and 3 on that of the
+-- length octet.
 pub record Placed (per x place : ℕ) : Type 0 where
   pub preamble : x ≡ PREAMBLE → place < 4 * per
   pub start : x ≡ BADSTART → suc place ≡ 5 * per

@@ -1,5 +1,5 @@
--- A report's frame: octets, symbols, chips (document 01, "The two radios" and "The frame"), for any
--- radio.
+-- A report's frame: octets, symbols, chips (document 01, "The two radios" and "The frame"), for
+-- any radio.
 use Prim.Native.Nat.{ℕ, zero, suc, _+_, _/_, _%_, _^_}
 use mathlib.Core.List.{List, [], _∷_, _++_}
 use lib.ListN.{length}

@@ -1,5 +1,5 @@
--- The hand carries the numbers of the symbols before it, and a symbol more keeps it so. Assumes
--- nothing.
+-- The hand carries the numbers of the symbols before it, and a symbol more keeps it so.
+-- Assumes nothing.
 use mathlib.Core.Path.{_≡_, refl, sym, ap, _∙_}
 use mathlib.Core.Bool.{true}
 use mathlib.Core.List.{List, [], _∷_, _++_, map-append}

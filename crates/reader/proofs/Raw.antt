@@ -138,8 +138,8 @@ module _ (r : Radio) (S : Sound r) where
       div-lt-iff-lt-mul {k = 2 ^ r .bits} {x = o % 256} {y = w} (pow-pos (r .bits)) .1 (omega (arith, t .0, mul-comm w (2 ^ r .bits))) in
       rw (t .1) (omega (arith, t .0, suc-mul b w, mul-le-mul-right w h))
 
-  -- k raw symbols, with j still to come: what was in hand has moved down by k, and they stand above
-  -- it
+  -- k raw symbols, with j still to come: what was in hand has moved down by k, and they stand
+  -- above it
   shifts-value : (cs : List ℕ) (o j : ℕ) → o < 256 → length cs + j ≡ perOctet r → Below (2 ^ r .bits) cs
       → shifts r o cs ≡ o / (2 ^ r .bits) ^ length cs + (2 ^ r .bits) ^ j * valueOf (2 ^ r .bits) cs
   unfolding valueOf

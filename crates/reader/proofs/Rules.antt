@@ -82,8 +82,8 @@ both-true : (a b : Bool) → both a b ≡ true → b ≡ true
 both-true true b e = e
 both-true false b e = not-both false e refl
 
--- The reader's test of room, after the rules with room for every report, is the rules with its
--- room.
+-- The reader's test of room, after the rules with room for every report, is the rules with
+-- its room.
 module _ (per room s raw o n d v : ℕ) (h : Hand) (l : h .length ≤ room) (m : ends per 5 s ≡ false → n ≤ room) where
   abbrev next : ℕ → Hand
   next x = onward x (moved h x n d v o) (stopped x h)

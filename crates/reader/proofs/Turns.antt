@@ -28,8 +28,8 @@ use Rattle.reader.proofs.Rules.{Clear, rules-clear, rules-last, rules-b
 use Rattle.reader.proofs.Steps.{goes, stops}
 use Rattle.reader.proofs.Carried.{Carries, verdict-is, carries-more}
 
--- the hand wants more: it is before the end of its frame, whose report has room; so its numbers are
--- small
+-- the hand wants more: it is before the end of its frame, whose report has room; so its numbers
+-- are small
 pub record Open (r : Radio) (room : ℕ) (h : Hand) : Type 0 where
   pub number : h .number ≡ MORE
   pub under : h .taken < (6 + h .length) * perOctet r

@@ -14,8 +14,8 @@ use Rattle.codes.specs.declared.Symbol.{Symbol}
 use Rattle.frame.specs.Frame.{startOctet, perOctet}
 use Rattle.reader.specs.Received.{received, octetAt, octetsFrom}
 
--- refused with a number at a place; or done at a place, with the report and the number of chips
--- repaired
+-- refused with a number at a place; or done at a place, with the report and the number of
+-- chips repaired
 pub data Answer : Type 0 where
   refused : ℕ → ℕ → Answer
   done : ℕ → List ℕ → ℕ → Answer
@@ -73,8 +73,8 @@ verdict r room s bs = rules (perOctet r) room s (getD bs s 0) (octetAt r 4 bs) (
 abbrev pub reportIn : Radio → List ℕ → List ℕ
 reportIn r bs = octetsFrom r 6 (octetAt r 5 bs) bs
 
--- what number x means after the symbols `read`, of which the last is in hand: the next one, or the
--- end
+-- what number x means after the symbols `read`, of which the last is in hand: the next one, or
+-- the end
 unfoldable pub concluded : Radio → ℕ → List Symbol → ℕ → Answer → Answer
 concluded r s read x next =
     pick (eqb x MORE) next (pick (eqb x DONE) (done (suc s) (reportIn r (received r (values read))) (repaired read)) (refused x s))

@@ -87,8 +87,8 @@ keptIn per h octets =
 unfoldable pub keptAt : ℕ → Hand → List ℕ → List ℕ
 keptAt mode h octets = pick (known mode) (onward (h .number) (keptIn (perOctet (radioOf mode)) h octets) octets) octets
 
--- the first n octets over the first n bytes of a buffer, as it was where there are not so many of
--- both
+-- the first n octets over the first n bytes of a buffer, as it was where there are not so many
+-- of both
 unfoldable pub storedIn : ℕ → List ℕ → List ℕ → List ℕ
 storedIn n octets buffer = pick (ltb 127 n) buffer (pick (ltb (length buffer) n) buffer (paste buffer 0 octets n))
 

@@ -186,8 +186,8 @@ fn length_after(per: usize, taken: u32, length: u32, octet: u32) -> u32
     }
 }
 
-// Rules 4 to 6 with room for every report: 7, 8, 9, then 0 on the last symbol of the frame, else
-// 13.
+// Rules 4 to 6 with room for every report: 7, 8, 9, then 0 on the last symbol of the frame,
+// else 13.
 fn rule(per: usize, taken: u32, raw: u32, octet: u32, n: u32) -> u32
     requires { ⌜ per ≤ 8 ⌝ }
     ensures { λ r. ⌜ r ≡ rules per 127 taken raw octet n ⌝ }

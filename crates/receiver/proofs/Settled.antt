@@ -1,7 +1,7 @@
--- The promises settle what they speak of: two outcomes that satisfy one are equal, the whole record
--- that comes back among them, and for `take` every byte of the lent buffer at exit. And they ask
--- nothing. Each speaks of the function's own contract, as `Settles` and `AsksNothing` do. Assumes
--- nothing.
+-- The promises settle what they speak of: two outcomes that satisfy one are equal, the whole
+-- record that comes back among them, and for `take` every byte of the lent buffer at exit. And
+-- they ask nothing. Each speaks of the function's own contract, as `Settles` and `AsksNothing` do.
+-- Assumes nothing.
 use mathlib.Core.Path.{_≡_}
 use contract.Lifetimes.{Lfts}
 use denote.Ref.{now}

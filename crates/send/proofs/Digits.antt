@@ -1,5 +1,5 @@
--- A turn of the loop over an argument's digits: what is still to be read is the mode. Assumes
--- nothing.
+-- A turn of the loop over an argument's digits: what is still to be read is the mode.
+-- Assumes nothing.
 use mathlib.Core.Path.{_≡_, refl, sym, _∙_}
 use mathlib.Core.List.{List, [], _∷_}
 use Prim.Native.Nat.{ℕ, _+_, _-_, _*_, _≤_, _<_, min}

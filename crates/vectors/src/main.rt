@@ -45,8 +45,8 @@ fn buffer() -> [u8; LONGEST]
     [255; LONGEST]
 }
 
-// The first so many octets written into so much of the room: prints mode, octets, room, number,
-// chips.
+// The first so many octets written into so much of the room: prints mode, octets, room,
+// number, chips.
 fn write_line(mode: u32, report: &[u8], octets: usize, chips: &mut [u8], room: usize) {
     if report.len() < octets {
         return;
@@ -62,8 +62,8 @@ fn write_line(mode: u32, report: &[u8], octets: usize, chips: &mut [u8], room: u
     number(written.chips as u64, b'\n');
 }
 
-// The first so many chips read with room for 127 octets: prints mode, chips, number, place, n,
-// count.
+// The first so many chips read with room for 127 octets: prints mode, chips, number, place,
+// n, count.
 fn read_line(mode: u32, chips: &[u8], count: usize) {
     if chips.len() < count {
         return;

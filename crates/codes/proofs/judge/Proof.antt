@@ -1,5 +1,5 @@
--- `judge` meets its contract: the same test as in the definition, an answer a side. Assumes
--- nothing.
+-- `judge` meets its contract: the same test as in the definition, an answer a side.
+-- Assumes nothing.
 use Rattle.codes.specs.Matching.{judged}
 use Rattle.codes.proofs.Tests.{tests}
 use borrow.Author.Needs.{needs}

@@ -61,7 +61,8 @@ Turn =
 turn : (c : Turn)
     → Turning (radioOf (c .before .before .before .before .before .before .before .before .before .before .before .before .before .before .before .args .mode))
     (c .before .before .before .before .before .before .before .before .before .before .before .before .before .before .before .args .room)
-    (c .before .before .before .before .before .before .before .before .before .before .before .before .before .before .before .args .chips .now) (c .before .keep .last .1 .1 .0) (c .before .before .before .with-room .result)
+    (c .before .before .before .before .before .before .before .before .before .before .before .before .before .before .before .args .chips .now)
+    (c .before .keep .last .1 .1 .0) (c .before .before .before .with-room .result)
     (c .before .before .before .before .before .before .before .before .before .before .symbols .at
     + c .before .before .before .before .before .before .before .before .before .before .before .before .size-of .result)
 turn c =

@@ -1,5 +1,5 @@
--- `mode_of` meets its contract: what is still to be read stays the mode (Digits.antt). Assumes
--- nothing.
+-- `mode_of` meets its contract: what is still to be read stays the mode (Digits.antt).
+-- Assumes nothing.
 use Prim.Native.Nat.{_-_, _≤_}
 use mathlib.Core.Path.{_≡_}
 use native.Mathlib.Omega.{arith}

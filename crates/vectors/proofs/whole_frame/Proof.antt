@@ -1,5 +1,5 @@
--- `whole_frame` is safe: the chips that the writer counts are in the buffer (`chips-fit`). Assumes
--- nothing.
+-- `whole_frame` is safe: the chips that the writer counts are in the buffer (`chips-fit`).
+-- Assumes nothing.
 use mathlib.Core.Path.{sym}
 use lib.Seq.{length-take-le}
 use borrow.Author.Needs.{needs}

@@ -1,5 +1,5 @@
--- `eight` meets its contract: with each turn, the number so far has one digit more. Assumes
--- nothing.
+-- `eight` meets its contract: with each turn, the number so far has one digit more.
+-- Assumes nothing.
 use Prim.Native.Nat.{_+_, _-_, _≤_}
 use mathlib.Core.Path.{_≡_, refl}
 use native.Mathlib.Omega.{arith}

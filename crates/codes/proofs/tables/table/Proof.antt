@@ -1,5 +1,5 @@
--- `table` meets its contract: the constant numbers are the words that the rule makes. Assumes
--- nothing.
+-- `table` meets its contract: the constant numbers are the words that the rule makes.
+-- Assumes nothing.
 use mathlib.Core.Path.{refl}
 use borrow.Author.Needs.{needs}
 use Rattle.codes.specs.Radio.{oqpskWord}

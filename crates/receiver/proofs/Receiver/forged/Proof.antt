@@ -1,6 +1,6 @@
--- `forged` meets its contract: a law for each of its ways (Ways.antt). Its numbers fit, since a
--- limit is at most 6, a length here at most 127 and an octet has at most 8 symbols. Assumes
--- nothing.
+-- `forged` meets its contract: a law for each of its ways (Ways.antt). Its numbers fit,
+-- since a limit is at most 6, a length here at most 127 and an octet has at most 8 symbols.
+-- Assumes nothing.
 use mathlib.Core.Path.{_≡_}
 use mathlib.Core.Logic.{_⊎_, inl, inr, ⊎-elim}
 use Prim.Native.Nat.{_+_}

@@ -1,5 +1,5 @@
--- `take` meets its contract: what `tell` tells, and what `store` stores of it (Ways.antt). Assumes
--- nothing.
+-- `take` meets its contract: what `tell` tells, and what `store` stores of it (Ways.antt).
+-- Assumes nothing.
 use mathlib.Core.Path.{_≡_}
 use lib.ListN.{length}
 use Rattle.receiver.proofs.Ways.{takes-stored}
