@@ -61,8 +61,8 @@ extern "C" {
  * the minor number where something is added; the last where nothing changes that a caller sees. */
 #define LERNAZHUP_VERSION_MAJOR 1
 #define LERNAZHUP_VERSION_MINOR 0
-#define LERNAZHUP_VERSION_PATCH 0
-#define LERNAZHUP_VERSION "1.0.0"
+#define LERNAZHUP_VERSION_PATCH 1
+#define LERNAZHUP_VERSION "1.0.1"
 
 /* The numbers given back. */
 #define LERNAZHUP_DONE 0u      /* done                                write, read, push, take */

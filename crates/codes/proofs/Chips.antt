@@ -3,7 +3,6 @@ use mathlib.Core.Path.{_≡_, refl, sym, ap, _∙_}
 use mathlib.Core.Bool.{Bool, true, false}
 use mathlib.Core.List.{List, [], _∷_, _++_}
 use Prim.Native.Nat.{ℕ, zero, suc, _+_, _≤_, _<_}
-use native.Mathlib.Numerals.{add-one}
 use native.Mathlib.Omega.{arith}
 use lib.ListN.{length, getD, take, drop, length-take}
 use lib.Seq.{take-suc, length-take-le, take-all, getD-take, getD-drop}
@@ -11,7 +10,7 @@ use lib.Bits.{bitXor}
 use lib.Dec.{eqb, ltb}
 use borrow.Author.Tests.{eqb-true, eqb-false, eq-eqb, ne-eqb, ltb-false, ltb-true, lt-ltb, le-ltb}
 use Rattle.codes.specs.Chips.{pick, differ, distance, bad}
-use Rattle.codes.specs.Matching.{from, xorSum}
+use Rattle.codes.specs.Packed.{from}
 use Rattle.codes.proofs.Tests.{by-test, not-both}
 
 pub differ-same : (x y : ℕ) → x ≡ y → differ x y ≡ 0
@@ -64,7 +63,7 @@ distance-append (u ∷ us) [] xs ys e = absurd (omega arith)
 distance-append (u ∷ us) (w ∷ ws) xs ys e = omega (arith, distance-append us ws xs ys (omega arith))
 
 -- one place more
-distance-more : (xs ys : List ℕ) (k : ℕ) → k < length xs → k < length ys
+pub distance-more : (xs ys : List ℕ) (k : ℕ) → k < length xs → k < length ys
     → distance (take (suc k) xs) (take (suc k) ys) ≡ distance (take k xs) (take k ys) + differ (getD xs k 0) (getD ys k 0)
 unfolding distance
 distance-more xs ys k h j =
@@ -105,12 +104,18 @@ chip-at [] b k = omega arith
 chip-at (x ∷ xs) b zero = by-test (ltb 1 x) (λ a. not-both true refl (rw a at b)) (λ a. ltb-false 1 x a)
 chip-at (x ∷ xs) b (suc k) = by-test (ltb 1 x) (λ a. not-both true refl (rw a at b)) (λ a. chip-at xs (rw a at b) k)
 
+-- and where each is, none is bad
+pub chips-good : (xs : List ℕ) → ((k : ℕ) → k < length xs → getD xs k 0 ≤ 1) → bad xs ≡ false
+unfolding bad
+chips-good [] h = refl
+chips-good (x ∷ xs) h = rw (le-ltb 1 x (h 0 (omega arith))) (chips-good xs (λ k l. h (suc k) (omega arith)))
+
 -- chip k of a window is the list's, at its place
 pub window-chip : (xs : List ℕ) (at size k : ℕ) → k < size → from xs at k ≡ getD (take size (drop at xs)) k 0
 window-chip xs at size k h = rw (getD-take size (drop at xs) k 0 h, getD-drop at xs k 0)
 
 -- of chips, an exclusive or is a difference
-xor-differ : (x y : ℕ) → x ≤ 1 → y ≤ 1 → bitXor x y ≡ differ x y
+pub xor-differ : (x y : ℕ) → x ≤ 1 → y ≤ 1 → bitXor x y ≡ differ x y
 xor-differ zero zero h j = refl
 xor-differ zero (suc zero) h j = refl
 xor-differ zero (suc (suc y)) h j = absurd (omega arith)
@@ -118,31 +123,6 @@ xor-differ (suc zero) zero h j = refl
 xor-differ (suc zero) (suc zero) h j = refl
 xor-differ (suc zero) (suc (suc y)) h j = absurd (omega arith)
 xor-differ (suc (suc x)) y h j = absurd (omega arith)
-
-pub xor-cong : (f f′ g g′ : ℕ → ℕ) (k : ℕ) → ((i : ℕ) → i < k → f i ≡ f′ i) → ((i : ℕ) → i < k → g i ≡ g′ i) → xorSum f g k ≡ xorSum f′ g′ k
-unfolding xorSum
-xor-cong f f′ g g′ zero p q = refl
-xor-cong f f′ g g′ (suc k) p q =
-    rw (xor-cong f f′ g g′ k (λ i h. p i (omega arith)) (λ i h. q i (omega arith)), p k (omega arith), q k (omega arith))
-
-xor-take : (xs ys : List ℕ) → bad xs ≡ false → bad ys ≡ false → (k : ℕ) → k ≤ length xs → k ≤ length ys → k < 256
-    → xorSum (λ i. getD xs i 0) (λ i. getD ys i 0) k ≡ distance (take k xs) (take k ys)
-unfolding xorSum distance
-xor-take xs ys a b zero h j s = refl
-xor-take xs ys a b (suc k) h j s =
-    let ih = xor-take xs ys a b k (omega arith) (omega arith) (omega arith) in
-    let x = xor-differ (getD xs k 0) (getD ys k 0) (chip-at xs a k) (chip-at ys b k) in
-    let m = distance-more xs ys k (omega arith) (omega arith) in
-    let l = distance-le (take k xs) (take k ys) in
-    let t = length-take-le k xs (omega arith) in
-    let u = differ-le (getD xs k 0) (getD ys k 0) in
-    rw (ih, x, m) (omega arith)
-
--- of two lists of chips, the sum of exclusive ors is the distance
-pub xor-distance : (xs ys : List ℕ) (n : ℕ) → bad xs ≡ false → bad ys ≡ false → length xs ≡ n → length ys ≡ n → n < 256
-    → xorSum (λ i. getD xs i 0) (λ i. getD ys i 0) n ≡ distance xs ys
-xor-distance xs ys n a b p q s =
-    xor-take xs ys a b n (omega arith) (omega arith) s ∙ rw (take-all n xs (omega arith), take-all n ys (omega arith))
 
 -- of three chips, one that differs from another differs from just one of two that differ
 differ-one : (x y z : ℕ) → x ≤ 1 → y ≤ 1 → z ≤ 1 → differ y z ≡ 1 → differ x y + differ x z ≡ 1
@@ -168,14 +148,3 @@ distance-both (x ∷ xs) (y ∷ ys) (z ∷ zs) a b c h j e =
     let r = distance-both xs ys zs (bad-drop 1 (x ∷ xs) a) (bad-drop 1 (y ∷ ys) b)
     (bad-drop 1 (z ∷ zs) c) (omega (arith, h)) (omega (arith, j)) (omega (arith, e, l, d)) in
     omega (arith, o, r)
-
--- a turn of the loop that keeps the highest byte so far
-module _ (xs : List ℕ) (k most x : ℕ) (h : k < length xs) (e : x ≡ getD xs k 0) (b : ltb 1 most ≡ bad (take k xs)) where
-  bad-more : bad (take (k + 1) xs) ≡ pick (ltb 1 most) true (ltb 1 x)
-  bad-more = rw (add-one, bad-suc xs k h, b, e)
-
-  pub higher : most < x → ltb 1 x ≡ bad (take (k + 1) xs)
-  higher l = by-test (ltb 1 most) (λ a. rw (bad-more, a) (lt-ltb 1 x (omega (arith, ltb-true 1 most a)))) (λ a. rw (bad-more, a))
-
-  pub no-higher : x ≤ most → ltb 1 most ≡ bad (take (k + 1) xs)
-  no-higher l = by-test (ltb 1 most) (λ a. rw (bad-more, a)) (λ a. rw (bad-more, a) (sym (le-ltb 1 x (omega (arith, ltb-false 1 most a)))))

@@ -1,20 +1,20 @@
--- The turning and inverting rule of the mode 1 words as a test of each of 512 numbers. The proof of
--- `table` computes it over the constant array; `ruled-table` makes of it that the array is the
--- definition's words, and `rule-chip` carries it to each chip. Assumes nothing.
-use mathlib.Core.Path.{_≡_, refl, sym, _∙_}
+-- The turning and inverting rule, chip by chip: one test that antt computes over the 512 chips of
+-- mode 1's words, and what it says of each, of the definition's words and of the strip that the
+-- writer copies from. Assumes nothing.
+use mathlib.Core.Path.{_≡_, refl, ap, _∙_}
 use mathlib.Core.Bool.{Bool, true}
+use mathlib.Core.List.{List}
 use Prim.Native.Nat.{ℕ, _+_, _-_, _*_, _/_, _%_, _<_}
 use native.Mathlib.Omega.{arith}
-use lib.ListN.{length, getD}
-use lib.Seq.{ext-getD}
+use lib.ListN.{getD}
 use lib.Dec.{eqb, ltb}
 use borrow.Author.Tests.{eqb-true}
 use Rattle.codes.specs.Chips.{pick}
-use Rattle.codes.specs.Radio.{oqpskWord, oqpskWords, turned, turns, oddInverted, turnedWords}
-use Rattle.codes.specs.Lent.{joined, tableOf, tableAt}
-use mathlib.Core.List.{List}
+use Rattle.codes.specs.Radio.{oqpsk, word, oqpskWord, oqpskWords, turned, turns, oddInverted, turnedWords}
+use Rattle.codes.specs.Strip.{stripAt, rowAt}
 use Rattle.codes.proofs.Tests.{every, each}
-use Rattle.codes.proofs.Lent.{table-long}
+use Rattle.codes.proofs.Chips.{window-chip}
+use Rattle.codes.proofs.Runs.{strip-row}
 
 -- chip k of symbol v below 8: of symbol 0's word, turned right by four chips v times
 abbrev pub turnedChip : ℕ → ℕ → ℕ
@@ -24,24 +24,27 @@ turnedChip v k = getD oqpskWord ((k + 32 - 4 * v) % 32) 0
 abbrev pub ruleChip : ℕ → ℕ → ℕ
 ruleChip v k = pick (ltb v 8) (turnedChip v k) (pick (eqb (k % 2) 1) (1 - turnedChip (v - 8) k) (turnedChip (v - 8) k))
 
--- the rule at number i of a table
-abbrev pub ruled : List ℕ → ℕ → Bool
-ruled table i = eqb (getD table i 0) (ruleChip (i / 32) (i % 32))
+-- the rule at chip i of all words in turn
+abbrev ruled : ℕ → Bool
+ruled i = eqb (getD (word oqpsk (i / 32)) (i % 32) 0) (ruleChip (i / 32) (i % 32))
 
--- the words of the definition follow it
-every-ruled : every (ruled (tableAt 1)) 512 ≡ true
-unfolding every tableAt tableOf joined oqpskWords turnedWords turns turned oddInverted oqpskWord
+every-ruled : every ruled 512 ≡ true
+unfolding every oqpskWords turnedWords turns turned oddInverted oqpskWord
 every-ruled = refl
 
--- and so 512 numbers that follow it are those words one after the other
-pub ruled-table : (table : List ℕ) → length table ≡ 512 → every (ruled table) 512 ≡ true → table ≡ tableAt 1
-ruled-table table l t =
-    ext-getD 0 table (tableAt 1) (l ∙ sym (table-long 1))
-    (λ i h. eqb-true _ _ (each (ruled table) 512 t i (omega arith)) ∙ sym (eqb-true _ _ (each (ruled (tableAt 1)) 512 every-ruled i (omega arith))))
-
--- chip k of symbol v in the table
-pub rule-chip : (v k : ℕ) → v < 16 → k < 32 → getD (tableAt 1) (v * 32 + k) 0 ≡ ruleChip v k
+-- chip k of word v
+pub rule-chip : (v k : ℕ) → v < 16 → k < 32 → getD (word oqpsk v) k 0 ≡ ruleChip v k
 rule-chip v k hv hk =
     let q : (v * 32 + k) / 32 ≡ v = omega arith in
     let m : (v * 32 + k) % 32 ≡ k = omega arith in
-    eqb-true _ _ (each (ruled (tableAt 1)) 512 every-ruled (v * 32 + k) (omega arith)) ∙ rw (q, m)
+    let t : getD (word oqpsk ((v * 32 + k) / 32)) ((v * 32 + k) % 32) 0 ≡ ruleChip ((v * 32 + k) / 32) ((v * 32 + k) % 32) =
+    eqb-true _ _ (each ruled 512 every-ruled (v * 32 + k) (omega arith)) in
+    rw (q, m) at t
+
+-- and of the strip, from the row of v on
+pub strip-chip : (v k : ℕ) → v < 16 → k < 32 → getD (stripAt 1) (rowAt 1 v + k) 0 ≡ ruleChip v k
+unfolding oqpskWords turnedWords turns
+strip-chip v k hv hk =
+    window-chip (stripAt 1) (rowAt 1 v) 32 k hk
+    ∙ ap (λ (w : List ℕ). getD w k 0) (strip-row 1 refl v (omega arith))
+    ∙ rule-chip v k hv hk

@@ -14,12 +14,14 @@ use Rattle.codes.proofs.size_of.Kinds as size-of-kinds
 use Rattle.codes.proofs.size_of.Reads as size-of-promise
 use Rattle.codes.proofs.limit_of.Kinds as limit-of-kinds
 use Rattle.codes.proofs.limit_of.Reads as limit-of-promise
-use Rattle.codes.proofs.tables.table.Kinds as table-kinds
-use Rattle.codes.proofs.tables.table.Reads as table-promise
-use Rattle.codes.proofs.read_symbol.Kinds as read-symbol-kinds
-use Rattle.codes.proofs.read_symbol.Reads as read-symbol-promise
+use Rattle.codes.proofs.gather.Kinds as gather-kinds
+use Rattle.codes.proofs.gather.Reads as gather-promise
 use Rattle.codes.proofs.matched.Kinds as matched-kinds
 use Rattle.codes.proofs.matched.Reads as matched-promise
+use Rattle.codes.proofs.strips.strip.Kinds as strip-kinds
+use Rattle.codes.proofs.strips.strip.Reads as strip-promise
+use Rattle.codes.proofs.strips.row_of.Kinds as row-of-kinds
+use Rattle.codes.proofs.strips.row_of.Reads as row-of-promise
 
 pub settled : {A : Type 0} {x : A} (p q : A) → p ≡ x → q ≡ x → p ≡ q
 settled p q e f = e ∙ sym f
@@ -38,14 +40,17 @@ size-of-settled κs a p q s t = settled p q
 pub limit-of-settled : Settles 0 limit-of-kinds.ps limit-of-kinds.r limit-of-promise.Post
 limit-of-settled κs a p q s t = settled p q
 
-pub table-settled : Settles 0 table-kinds.ps table-kinds.r table-promise.Post
-table-settled κs a p q s t = settled p q
+pub gather-settled : Settles 1 gather-kinds.ps gather-kinds.r gather-promise.Post
+gather-settled κs a p q s t = settled p q
 
-pub read-symbol-settled : Settles 1 read-symbol-kinds.ps read-symbol-kinds.r read-symbol-promise.Post
-read-symbol-settled κs a p q s t = settled p q
-
-pub matched-settled : Settles 2 matched-kinds.ps matched-kinds.r matched-promise.Post
+pub matched-settled : Settles 0 matched-kinds.ps matched-kinds.r matched-promise.Post
 matched-settled κs a p q s t = settled p q
+
+pub strip-settled : Settles 0 strip-kinds.ps strip-kinds.r strip-promise.Post
+strip-settled κs a p q s t = settled p q
+
+pub row-of-settled : Settles 0 row-of-kinds.ps row-of-kinds.r row-of-promise.Post
+row-of-settled κs a p q s t = settled p q
 
 pub size-of-asks-nothing : AsksNothing 0 size-of-kinds.ps size-of-promise.Pre
 size-of-asks-nothing κs a = tt
@@ -53,11 +58,14 @@ size-of-asks-nothing κs a = tt
 pub limit-of-asks-nothing : AsksNothing 0 limit-of-kinds.ps limit-of-promise.Pre
 limit-of-asks-nothing κs a = tt
 
-pub table-asks-nothing : AsksNothing 0 table-kinds.ps table-promise.Pre
-table-asks-nothing κs a = tt
+pub gather-asks-nothing : AsksNothing 1 gather-kinds.ps gather-promise.Pre
+gather-asks-nothing κs a = tt
 
-pub read-symbol-asks-nothing : AsksNothing 1 read-symbol-kinds.ps read-symbol-promise.Pre
-read-symbol-asks-nothing κs a = tt
-
-pub matched-asks-nothing : AsksNothing 2 matched-kinds.ps matched-promise.Pre
+pub matched-asks-nothing : AsksNothing 0 matched-kinds.ps matched-promise.Pre
 matched-asks-nothing κs a = tt
+
+pub strip-asks-nothing : AsksNothing 0 strip-kinds.ps strip-promise.Pre
+strip-asks-nothing κs a = tt
+
+pub row-of-asks-nothing : AsksNothing 0 row-of-kinds.ps row-of-promise.Pre
+row-of-asks-nothing κs a = tt

@@ -19,6 +19,11 @@ by-test false f g = g refl
 pub not-both : {P : Type 0} (b : Bool) → b ≡ true → b ≡ false → P
 not-both b t f = absurd (subst (λ (x : Bool). T x) (sym t ∙ f) tt)
 
+-- two tests that both hold
+pub both-true : (a b : Bool) → pick a b false ≡ true → (a ≡ true) × (b ≡ true)
+both-true true b e = (refl, e)
+both-true false b e = not-both false e refl
+
 -- the test of each number below k, which antt computes
 unfoldable pub every : (ℕ → Bool) → ℕ → Bool
 every p zero = true

@@ -1,10 +1,13 @@
 -- What a reader must believe of the radios: the numbers given back, distance, the radios, reading
--- one symbol, and what is given to whoever reads or writes many. `Matching` and `Packed` are not
--- among it: they are what the code computes, shown equal.
+-- one symbol, and a symbol's size and accepted distance. The rest is not among it: `Packed`,
+-- `Gathered` and `Columns` are what the code computes, shown equal, and `Strip` what the writer
+-- copies from.
 pub mod Numbers
 pub mod Chips
 pub mod Radio
 pub mod Symbol
 pub mod Lent
-pub mod Matching
 pub mod Packed
+pub mod Gathered
+pub mod Columns
+pub mod Strip

@@ -1,13 +1,13 @@
--- Reading one symbol: rules 1 to 3 of document 01's "Reading order".
-use Prim.Native.Nat.{ℕ, zero, suc, _+_}
+-- Reading one symbol: rules 2 and 3 of document 01's "Reading order".
+use Prim.Native.Nat.{ℕ, zero, suc}
 use mathlib.Core.Bool.{Bool}
 use mathlib.Core.List.{List}
-use lib.ListN.{length, take, drop}
+use lib.ListN.{length}
 use lib.Dec.{leb, ltb}
 use Rattle.codes.specs.declared.Symbol.{Symbol}
-use Rattle.codes.specs.Numbers.{DONE, BADMODE, RUNOUT, NOCHIP, LOST}
+use Rattle.codes.specs.Numbers.{DONE, NOCHIP, LOST}
 use Rattle.codes.specs.Chips.{pick, distance, bad}
-use Rattle.codes.specs.Radio.{Radio, word, known, radioOf}
+use Rattle.codes.specs.Radio.{Radio, word}
 
 -- a refusal's other numbers are 0
 abbrev pub refused : ℕ → Symbol
@@ -36,12 +36,3 @@ valued r chips v =
 --    word within it.
 unfoldable pub symbolOf : Radio → List ℕ → Symbol
 symbolOf r chips = pick (bad chips) (refused NOCHIP) (valued r chips (first (within r chips) 0 (length (r .words))))
-
--- the symbol of a mode's radio that begins at a place of a chip buffer.
--- A mode that has no radio: 1. Then
--- 1. Fewer chips left than one symbol: 4.
-unfoldable pub symbolAt : ℕ → List ℕ → ℕ → Symbol
-symbolAt mode chips at =
-    pick (known mode)
-    (pick (ltb (length chips) (at + radioOf mode .size)) (refused RUNOUT) (symbolOf (radioOf mode) (take (radioOf mode .size) (drop at chips))))
-    (refused BADMODE)

@@ -1,22 +1,25 @@
-// The radios' code words and the reading of one symbol within a distance. One loop over words
-// serves every radio; how far a word is, is a sum over its chips, which for fifteen of them has a
-// form of its own (fifteen.rt). That at most one word lies within the limit is a law over word
-// length, number of words and limit (proofs/Unique.antt), so the nearest word, where it is within
-// the limit, is that one (proofs/Equal.antt). Each radio only instantiates it.
+// The radios' numbers, a symbol's chips gathered as bits, and the symbol that the bits say. Whoever
+// reads gathers a symbol's chips eight at a time, each eight tested as it is gathered, and hands
+// the bits to `matched`. That at most one word lies within the limit is a law over word length,
+// number of words and limit (proofs/Unique.antt), so the nearest word, where it is within the
+// limit, is that one (proofs/Nearest.antt); how far the words are is counted on the bits
+// (fifteen.rt, columns.rt). That the symbol of the bits is that of the chips is shown in
+// proofs/Gathering.antt.
 ghost use mathlib.Core.Path.{_≡_};
-ghost use mathlib.Core.Bool.{false};
-ghost use Prim.Native.Nat.{_+_, _*_, _≤_, _<_};
-ghost use lib.ListN.{length, take, drop};
-ghost use lib.Dec.{ltb};
-ghost use Rattle.codes.specs.Chips.{bad};
-ghost use Rattle.codes.specs.Symbol.{refused, symbolAt};
-ghost use Rattle.codes.specs.Lent.{sizeAt, limitAt, tableAt};
-ghost use Rattle.codes.specs.Matching.{sumTo, nearestOf, judged, matchIn, matchedAt};
+ghost use Prim.Native.Nat.{_+_, _≤_};
+ghost use lib.ListN.{length};
+ghost use Rattle.codes.specs.Symbol.{refused};
+ghost use Rattle.codes.specs.Lent.{sizeAt, limitAt};
+ghost use Rattle.codes.specs.Packed.{from, packed};
+ghost use Rattle.codes.specs.Gathered.{gathered, gatheredAt, symbolIn};
+ghost use Rattle.codes.specs.Columns.{judged};
 
+mod columns;
 mod fifteen;
-mod tables;
+mod strips;
 
-pub use tables::table;
+pub use strips::row_of;
+pub use strips::strip;
 
 // The numbers given back (specs/Numbers.antt).
 pub const DONE: u32 = 0;
@@ -49,18 +52,18 @@ pub const MORE: u32 = 13;
 
 pub const FORGED: u32 = 34;
 
+// What `gather` gives back in place of bits: all of them set, which no chips give.
+pub const NOEIGHT: u64 = 0xFFFFFFFFFFFFFFFF;
+
+// A symbol has at most so many eights.
+pub const EIGHTS: usize = 4;
+
 // What one symbol's chips say: `number` 0 with the word's value and its distance, or a refusal
 // with zeros.
 pub struct Symbol {
     pub number: u32,
     pub value: u32,
     pub distance: u32,
-}
-
-// The nearest word so far.
-struct Nearest {
-    value: u32,
-    distance: u8,
 }
 
 // Chips in a symbol of the mode's radio; 0 for a mode that has no radio.
@@ -89,160 +92,89 @@ pub fn limit_of(mode: u32) -> u32
     0
 }
 
-// The symbol of the mode's radio that begins at a place of the chips: 1, 4, 5 and 6 in that order.
-pub fn read_symbol(mode: u32, chips: &[u8], at: usize) -> Symbol
-    ensures { λ r. ⌜ r ≡ symbolAt mode (now (chips .entry)) at ⌝ }
+// Tests eight k of a symbol's chips, and adds it to the bits gathered before it; `NOEIGHT` where it
+// runs out of chips or one of its bytes is no chip. A mode 0 symbol is two eights that both have
+// chip 7; an eight that a symbol doesn't have leaves the bits as they are, so that a loop over all
+// four serves every mode, and has a constant length.
+pub fn gather(mode: u32, part: &[u8], k: usize, bits: u64) -> u64
+    ensures { λ r. ⌜ r ≡ gatheredAt mode (now (part .entry)) k bits ⌝ }
 {
     if mode == 0 {
-        return read_bit(chips, at);
+        return gather_by(2, 7, 1, part, k, bits);
     }
     if mode == 1 {
-        let words = table(1);
-        return match_in(32, 16, 5, &words, chips, at);
+        return gather_by(4, 8, 2, part, k, bits);
     }
-    refusal(BADMODE)
+    NOEIGHT
 }
 
-// The same by a lent table of the mode's words, for whoever reads many symbols: mode 1's takes long
-// to make. Mode 0's two words are at hand, and its table is not looked at.
-pub fn matched(mode: u32, words: &[u8; 512], chips: &[u8], at: usize) -> Symbol
-    ensures { λ r. ⌜ r ≡ matchedAt mode (now (words .entry)) (now (chips .entry)) at ⌝ }
+// The same by the layout's numbers: eights, chips from one to the next, and bits. A sum, since the
+// bits of one eight lie between those of the others; it wraps only for bits that were not gathered.
+fn gather_by(eights: usize, step: usize, lift: usize, part: &[u8], k: usize, bits: u64) -> u64
+    requires { ⌜ (eights ≤ 4) × (step ≤ 8) × (lift ≤ 8) ⌝ }
+    ensures { λ r. ⌜ r ≡ gathered eights step lift (now (part .entry)) k bits ⌝ }
 {
-    if mode == 0 {
-        return read_bit(chips, at);
+    if eights <= k {
+        return bits;
     }
-    if mode == 1 {
-        return match_in(32, 16, 5, words, chips, at);
+    if part.len() < k * step + 8 {
+        return NOEIGHT;
     }
-    refusal(BADMODE)
+    let eight = pack(part, k * step);
+    // a chip has no bit but the lowest
+    if eight & 0xFEFEFEFEFEFEFEFE != 0 {
+        return NOEIGHT;
+    }
+    std::num::wrapping_add_u64(bits, eight << (k * lift))
 }
 
-// A symbol of mode 0. The table is lent for the contract's sake: words of fifteen chips are not
-// read from it (fifteen.rt), so nothing of it is left in the machine code.
-fn read_bit(chips: &[u8], at: usize) -> Symbol
-    ensures { λ r. ⌜ r ≡ matchIn 15 2 6 (tableAt 0) (now (chips .entry)) at ⌝ }
+// Eight bytes as the digits of one number, the first the lowest. The loop has a constant length,
+// and the back end makes one load of it.
+fn pack(bytes: &[u8], at: usize) -> u64
+    requires { ⌜ at + 8 ≤ length (now bytes) ⌝ }
+    ensures { λ r. ⌜ r ≡ packed (from (now (bytes .entry)) at) 8 ⌝ }
 {
-    let words = table(0);
-    match_in(15, 2, 6, &words, chips, at)
-}
-
-// Matching for any word length, number of words and limit: 4, 5 and 6 in that order. Called with
-// constants, so that the loops have constant lengths. Words of fifteen chips are mode 0's two.
-fn match_in(
-    size: usize,
-    count: u32,
-    limit: u8,
-    words: &[u8; 512],
-    chips: &[u8],
-    at: usize,
-) -> Symbol
-    requires { ⌜ (count * size ≤ 512) × (size ≤ 512) × (count ≤ 512) × (size ≡ 15 → (count ≡ 2) × (now words ≡ tableAt 0)) ⌝ }
-    ensures { λ r. ⌜ r ≡ matchIn size count limit (now (words .entry)) (now (chips .entry)) at ⌝ }
-{
-    if run_out(chips, at, size) {
-        return refusal(RUNOUT);
-    }
-    if bad_in(size, chips, at) {
-        return refusal(NOCHIP);
-    }
-    judge(limit, nearest_word(size, count, words, chips, at))
-}
-
-// Looks at every word: nothing leaves the loop.
-fn nearest_word(size: usize, count: u32, words: &[u8; 512], chips: &[u8], at: usize) -> Nearest
-    requires { ⌜ (count * size ≤ 512) × (size ≤ 512) × (count ≤ 512) × (at + size ≤ length (now chips))
-        × (size ≡ 15 → (count ≡ 2) × (now words ≡ tableAt 0)) × (bad (take size (drop at (now chips))) ≡ false) ⌝ }
-    ensures { λ r. ⌜ r ≡ nearestOf (sumTo (now (words .entry)) (now (chips .entry)) at size) count ⌝ }
-{
-    let mut best = Nearest {
-        value: 0,
-        distance: 255,
-    };
-    let mut v: u32 = 0;
-    let mut row: usize = 0;
-    while v < count {
-        let d = apart(size, v, words, row, chips, at);
-        if d < best.distance {
-            best = Nearest {
-                value: v,
-                distance: d,
-            };
-        }
-        v += 1;
-        row += size;
-    }
-    best
-}
-
-// The sum of exclusive ors of word v, whose row is lent, and the chips from a place on: the
-// distance, where both are of chips. A sum of a byte's width is what the back end turns into vector
-// sums, but poorly over fifteen bytes.
-fn apart(size: usize, v: u32, words: &[u8; 512], row: usize, chips: &[u8], at: usize) -> u8
-    requires { ⌜ (row ≡ v * size) × (row + size ≤ 512) × (at + size ≤ length (now chips))
-        × (size ≡ 15 → (v < 2) × (now words ≡ tableAt 0)) × (bad (take size (drop at (now chips))) ≡ false) ⌝ }
-    ensures { λ r. ⌜ r ≡ sumTo (now (words .entry)) (now (chips .entry)) at size v ⌝ }
-{
-    if size == 15 {
-        return fifteen::apart(v, chips, at);
-    }
-    let mut d: u8 = 0;
+    let mut x: u64 = 0;
     let mut k: usize = 0;
-    while k < size {
-        d = std::num::wrapping_add_u8(d, chips[at + k] ^ words[row + k]);
+    while k < 8 {
+        x |= wide(bytes[at + k]) << (k * 8);
         k += 1;
     }
-    d
+    x
 }
 
-fn judge(limit: u8, n: Nearest) -> Symbol
-    ensures { λ r. ⌜ r ≡ judged limit n ⌝ }
+// A function of its own, so that a caller need not show that a byte fits.
+fn wide(byte: u8) -> u64
+    ensures { λ r. ⌜ r ≡ byte ⌝ }
 {
-    if n.distance <= limit {
+    byte as u64
+}
+
+// The symbol that gathered bits say: 1 and 6 in that order.
+pub fn matched(mode: u32, bits: u64) -> Symbol
+    ensures { λ r. ⌜ r ≡ symbolIn mode bits ⌝ }
+{
+    if mode == 0 {
+        return fifteen::read_bit(bits);
+    }
+    if mode == 1 {
+        return columns::read_word(bits);
+    }
+    refusal(BADMODE)
+}
+
+// A word's number at its distance, where that is within the limit.
+fn judge(limit: u32, value: u32, distance: u32) -> Symbol
+    ensures { λ r. ⌜ r ≡ judged limit value distance ⌝ }
+{
+    if distance <= limit {
         return Symbol {
             number: DONE,
-            value: n.value,
-            distance: n.distance as u32,
+            value,
+            distance,
         };
     }
     refusal(LOST)
-}
-
-// Whether fewer chips are left from a place on than one symbol has.
-fn run_out(chips: &[u8], at: usize, size: usize) -> bool
-    ensures { λ r. ⌜ r ≡ ltb (length (now (chips .entry))) (at + size) ⌝ }
-{
-    if chips.len() < size {
-        return true;
-    }
-    chips.len() - size < at
-}
-
-// Whether a window has a byte that is no chip.
-fn bad_in(size: usize, chips: &[u8], at: usize) -> bool
-    requires { ⌜ at + size ≤ length (now chips) ⌝ }
-    ensures { λ r. ⌜ r ≡ bad (take size (drop at (now (chips .entry)))) ⌝ }
-{
-    if size == 15 {
-        return fifteen::any_bad(chips, at);
-    }
-    1 < highest(chips, at, size)
-}
-
-// The highest byte of a window: above 1 where one of them is no chip.
-fn highest(chips: &[u8], at: usize, size: usize) -> u8
-    requires { ⌜ at + size ≤ length (now chips) ⌝ }
-    ensures { λ r. ⌜ ltb 1 r ≡ bad (take size (drop at (now (chips .entry)))) ⌝ }
-{
-    let mut most: u8 = 0;
-    let mut k: usize = 0;
-    while k < size {
-        let chip = chips[at + k];
-        if most < chip {
-            most = chip;
-        }
-        k += 1;
-    }
-    most
 }
 
 // A refusal's other numbers are 0.

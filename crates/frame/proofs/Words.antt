@@ -1,32 +1,36 @@
--- A word of the lent table, copied over the buffer. Assumes nothing.
+-- A word of the lent strip, copied over the buffer. Assumes nothing.
 use mathlib.Core.Path.{_≡_, ap, _∙_}
 use mathlib.Core.Bool.{true}
 use mathlib.Core.List.{List, _++_}
-use Prim.Native.Nat.{ℕ, _+_, _*_, _≤_, _<_}
+use Prim.Native.Nat.{ℕ, _+_, _≤_, _<_}
 use native.Mathlib.Omega.{arith}
 use lib.ListN.{length, take, drop, length-drop}
 use lib.Seq.{paste, take-take}
 use Rattle.codes.specs.Radio.{radioOf, word, known}
-use Rattle.codes.specs.Lent.{tableAt}
-use Rattle.codes.proofs.Lent.{table-row, table-long, row-fits}
+use Rattle.codes.specs.Strip.{stripAt, rowAt}
+use Rattle.codes.proofs.Runs.{strip-row, strip-long, strip-fits}
 use Rattle.frame.specs.Putting.{over}
 use Rattle.frame.proofs.Over.{over-paste}
 
--- at the size that the code holds
-module _ (mode : ℕ) (m : known mode ≡ true) (words : List ℕ) (t : words ≡ tableAt mode) (v : ℕ)
-    (h : v < length (radioOf mode .words)) (size : ℕ) (e : radioOf mode .size ≡ size) where
-  in-table : v * size + size ≤ 512
-  in-table = rw e at (row-fits mode v h)
+-- at the row and the size that the code holds
+module _ (mode : ℕ) (m : known mode ≡ true) (words : List ℕ) (t : words ≡ stripAt mode) (v : ℕ)
+    (h : v < length (radioOf mode .words)) (row : ℕ) (b : row ≡ rowAt mode v) (size : ℕ) (e : radioOf mode .size ≡ size) where
+  in-strip : row + size ≤ 128
+  in-strip = rw (b, ← e) (strip-fits mode v)
 
-  pub word-put : (d : List ℕ) (at : ℕ) → paste d at (drop (v * size) words) size ≡ over d at (word (radioOf mode) v)
+  run : take size (drop row words) ≡ word (radioOf mode) v
+  run = rw (b, t, ← e) (strip-row mode m v h)
+
+  word-put : (d : List ℕ) (at : ℕ) → paste d at (drop row words) size ≡ over d at (word (radioOf mode) v)
   word-put d at =
-      let l : size ≤ length (drop (v * size) (tableAt mode)) = simp length-drop (omega (arith, in-table, table-long mode)) in
-      rw t (over-paste d at (drop (v * size) (tableAt mode)) size l ∙ ap (over d at) (rw e at (table-row mode m v h)))
+      let w : length words ≡ 128 = rw t (strip-long mode) in
+      let l : size ≤ length (drop row words) = simp length-drop (omega (arith, in-strip)) in
+      over-paste d at (drop row words) size l ∙ ap (over d at) run
 
   -- the word taken aside, copied from there
-  pub aside-put : (w : List ℕ) → w ≡ take size (drop (v * size) words) → (d : List ℕ) (at : ℕ) → paste d at w size ≡ over d at (word (radioOf mode) v)
+  pub aside-put : (w : List ℕ) → w ≡ take size (drop row words) → (d : List ℕ) (at : ℕ) → paste d at w size ≡ over d at (word (radioOf mode) v)
   aside-put w a d at =
-      rw a (ap (λ (x : List ℕ). take at d ++ x ++ drop (at + size) d) (take-take size size (drop (v * size) words) (omega arith)) ∙ word-put d at)
+      rw a (ap (λ (x : List ℕ). take at d ++ x ++ drop (at + size) d) (take-take size size (drop row words) (omega arith)) ∙ word-put d at)
 
-  pub word-fits : (at n : ℕ) → at + radioOf mode .size ≤ n → (v * size + size ≤ 512) × (length words ≡ 512) × (at + size ≤ n)
-  word-fits at n l = (in-table, rw t (table-long mode), rw e at l)
+  pub word-fits : (at n : ℕ) → at + radioOf mode .size ≤ n → (row + size ≤ 128) × (length words ≡ 128) × (at + size ≤ n)
+  word-fits at n l = (in-strip, rw t (strip-long mode), rw e at l)

@@ -7,7 +7,7 @@ ghost use Prim.Native.Nat.{_+_, _*_, _/_, _%_, _^_, _≤_, _<_};
 ghost use lib.ListN.{length, getD, drop};
 ghost use lib.Seq.{paste};
 ghost use Rattle.codes.specs.Radio.{known, radioOf, word};
-ghost use Rattle.codes.specs.Lent.{tableAt};
+ghost use Rattle.codes.specs.Strip.{stripAt};
 ghost use Rattle.frame.specs.Outcome.{outcome};
 ghost use Rattle.frame.specs.Frame.{octets, perAt, rawOf, sent, encode, symbols, chipsOf};
 ghost use Rattle.frame.specs.Write.{refused, written};
@@ -52,25 +52,25 @@ fn refusal(number: u32) -> Written
     Written { number, chips: 0 }
 }
 
-// The frame over the front of the buffer. Each mode's table is made by itself, of constants: made
-// in one place for either mode, it would be put together chip by chip.
+// The frame over the front of the buffer. Each mode's strip of words is made by itself, of
+// constants: made in one place for either mode, it would be put together chip by chip.
 fn put_frame(mode: u32, report: &[u8], out: &mut [u8])
     requires { ⌜ (known mode ≡ true) × (length (now report) ≤ 127) × ((6 + length (now report)) * octetChips (radioOf mode) ≤ length (now out)) ⌝ }
     ensures { λ _. ⌜ now (out .exit) ≡ over (now (out .entry)) 0 (chipsOf (radioOf mode) (symbols (radioOf mode) (now (report .entry)))) ⌝ }
 {
     if mode == 0 {
-        let words = codes::table(0);
+        let words = codes::strip(0);
         put_octets(0, &words, report, out);
     } else {
-        let words = codes::table(1);
+        let words = codes::strip(1);
         put_octets(1, &words, report, out);
     }
 }
 
 // Every octet of the frame in turn. The chain runs through all of them.
-fn put_octets(mode: u32, words: &[u8; 512], report: &[u8], out: &mut [u8])
+fn put_octets(mode: u32, words: &[u8; 128], report: &[u8], out: &mut [u8])
     requires { ⌜ (known mode ≡ true) × (length (now report) ≤ 127)
-        × ((6 + length (now report)) * octetChips (radioOf mode) ≤ length (now out)) × (now words ≡ tableAt mode) ⌝ }
+        × ((6 + length (now report)) * octetChips (radioOf mode) ≤ length (now out)) × (now words ≡ stripAt mode) ⌝ }
     ensures { λ _. ⌜ now (out .exit) ≡ over (now (out .entry)) 0 (chipsOf (radioOf mode) (symbols (radioOf mode) (now (report .entry)))) ⌝ }
 {
     let size = octet_chips(mode);
@@ -85,26 +85,26 @@ fn put_octets(mode: u32, words: &[u8; 512], report: &[u8], out: &mut [u8])
     }
 }
 
-// Octet j of the frame.
+// Octet j of the frame; the report's octets, which are most of them, by the first test.
 fn octet_at(report: &[u8], j: usize) -> u8
     requires { ⌜ (length (now report) ≤ 127) × (j < 6 + length (now report)) ⌝ }
     ensures { λ r. ⌜ r ≡ getD (octets (now (report .entry))) j 0 ⌝ }
 {
-    if j < 4 {
-        return 0;
-    }
-    if j == 4 {
-        return START;
+    if 5 < j {
+        return report[j - 6];
     }
     if j == 5 {
         return report.len() as u8;
     }
-    report[j - 6]
+    if j == 4 {
+        return START;
+    }
+    0
 }
 
 // The symbols of one octet, its lowest bits first; the last of them comes back.
-fn put_octet(mode: u32, words: &[u8; 512], last: u8, octet: u8, out: &mut [u8], at: usize) -> u8
-    requires { ⌜ (known mode ≡ true) × (now words ≡ tableAt mode) × (last < 2 ^ radioOf mode .bits) × (at + octetChips (radioOf mode) ≤ length (now out)) ⌝ }
+fn put_octet(mode: u32, words: &[u8; 128], last: u8, octet: u8, out: &mut [u8], at: usize) -> u8
+    requires { ⌜ (known mode ≡ true) × (now words ≡ stripAt mode) × (last < 2 ^ radioOf mode .bits) × (at + octetChips (radioOf mode) ≤ length (now out)) ⌝ }
     ensures { λ r. ⌜ r ≡ lastSent (radioOf mode) last (rawOf (radioOf mode) octet) ⌝ }
     ensures { λ _. ⌜ now (out .exit) ≡ over (now (out .entry)) at (chipsOf (radioOf mode) (encode (radioOf mode) last (rawOf (radioOf mode) octet))) ⌝ }
 {
@@ -124,18 +124,21 @@ fn put_octet(mode: u32, words: &[u8; 512], last: u8, octet: u8, out: &mut [u8], 
     v
 }
 
-fn put_symbol(mode: u32, words: &[u8; 512], v: u8, out: &mut [u8], at: usize)
-    requires { ⌜ (known mode ≡ true) × (now words ≡ tableAt mode) × (v < length (radioOf mode .words)) × (at + radioOf mode .size ≤ length (now out)) ⌝ }
+// A symbol's word. All its chips are read before the first is stored, so that the back end, which
+// may not know that strip and buffer are apart, moves many at a time.
+fn put_symbol(mode: u32, words: &[u8; 128], v: u8, out: &mut [u8], at: usize)
+    requires { ⌜ (known mode ≡ true) × (now words ≡ stripAt mode) × (v < length (radioOf mode .words)) × (at + radioOf mode .size ≤ length (now out)) ⌝ }
     ensures { λ _. ⌜ now (out .exit) ≡ over (now (out .entry)) at (word (radioOf mode) v) ⌝ }
 {
-    let row = v as usize;
+    let row = codes::row_of(mode, v);
     if mode == 0 {
-        // all fifteen are read before the first is stored, so the back end stores eight at a time
         let mut word = [0u8; 15];
-        put_word(words, row * 15, 15, &mut word, 0);
+        put_word(words, row, 15, &mut word, 0);
         put_word(&word, 0, 15, out, at);
     } else {
-        put_word(words, row * 32, 32, out, at);
+        let mut word = [0u8; 32];
+        put_word(words, row, 32, &mut word, 0);
+        put_word(&word, 0, 32, out, at);
     }
 }
 

@@ -5,21 +5,16 @@ use mathlib.Core.Bool.{true}
 use mathlib.Core.List.{List, []}
 use Prim.Native.Nat.{ℕ, suc, _+_, _-_, _≤_, _<_}
 use native.Mathlib.Omega.{arith}
-use lib.ListN.{length, getD, take, drop}
-use borrow.Author.Tests.{le-ltb}
+use lib.ListN.{length, getD, take, drop, length-take, length-drop}
 use lib.Dec.{eqb}
 use Rattle.codes.specs.Numbers.{DONE, NOCHIP}
 use Rattle.codes.specs.Chips.{pick, bad}
 use Rattle.codes.specs.Radio.{known, radioOf}
-use Rattle.codes.specs.Symbol.{symbolOf, symbolAt}
-use Rattle.codes.specs.Lent.{sizeAt, tableAt}
-use Rattle.codes.specs.Matching.{matchedAt}
+use Rattle.codes.specs.Symbol.{symbolOf}
+use Rattle.codes.specs.Lent.{sizeAt}
 use Rattle.codes.specs.declared.Symbol.{Symbol}
-use Rattle.codes.proofs.Tests.{by-test}
 use Rattle.codes.proofs.Modes.{each-row, size-known}
-use Rattle.codes.proofs.Chips.{chip-at, window-chip}
 use Rattle.codes.proofs.Facts.{sound}
-use Rattle.codes.proofs.Equal.{matched-symbol}
 use Rattle.reader.specs.declared.Hand.{Hand}
 use Rattle.reader.specs.Order.{reading}
 use Rattle.reader.specs.Taking.{begun, stopped, advanced, followed, roomed, keptAt, Tells}
@@ -56,12 +51,6 @@ symbol-followed mode m ws octets h L next g e =
     symbol-taken (radioOf mode) (sound mode) 127 ws octets h L next (low mode) x
     refl g (e ∙ followed-is mode m h x (L .goes .few)) (keptAt mode g octets) (rw m)
 
--- a byte above 1 in a window
-pub bad-byte : (chips : List ℕ) (at size k : ℕ) → k < size → 1 < getD chips (at + k) 0 → bad (take size (drop at chips)) ≡ true
-bad-byte chips at size k h b =
-    by-test (bad (take size (drop at chips))) (λ t. t)
-    (λ f. absurd (omega (arith, chip-at (take size (drop at chips)) f k, window-chip chips at size k h)))
-
 pub size-positive : (mode size : ℕ) → known mode ≡ true → size ≡ sizeAt mode → 0 < size
 size-positive mode size m e = rw (e ∙ size-known mode m) (size-pos (radioOf mode) (sound mode))
 
@@ -80,20 +69,24 @@ module _ (mode : ℕ) (m : known mode ≡ true) (room : ℕ) (chips : List ℕ) 
       whole : at + radioOf mode .size ≤ length chips
       whole = let w : at + size ≤ length chips = omega (arith, L .upto) in rw is at w
 
-      pub stops-bad : bad (take size (drop at chips)) ≡ true → (g : Hand)
-          → g ≡ stopped NOCHIP h → Tells (radioOf mode) room (reading (radioOf mode) room chips) octets g
-      stops-bad b g q = rw q (scan-bad (radioOf mode) (sound mode) room chips octets h at L (rw is at l) (rw is at b))
+      -- the symbol's chips, as they are lent
+      module _ (part : List ℕ) (ep : part ≡ take (at + size - at) (drop at chips)) where
+        part-is : part ≡ take (radioOf mode .size) (drop at chips)
+        part-is = let n : at + size - at ≡ radioOf mode .size = omega (arith, is) in rw n at ep
 
-      module _ (words : List ℕ) (t : words ≡ tableAt mode) (x : Symbol)
-          (ex : x ≡ matchedAt mode words chips at) (f : Hand) (ef : f ≡ followed mode h x) (g : Hand)
-          (eg : g ≡ roomed room h f) (kept : List ℕ) (ek : kept ≡ keptAt mode g octets) where
-        symbol-is : x ≡ symbolOf (radioOf mode) (take (radioOf mode .size) (drop at chips))
-        unfolding symbolAt
-        symbol-is = ex ∙ matched-symbol mode words chips at t ∙ rw (m, le-ltb (length chips) (at + radioOf mode .size) whole)
+        pub part-long : length part ≡ radioOf mode .size
+        part-long = rw part-is (simp (length-take, length-drop) (omega (arith, whole)))
 
-        pub turns : Turning (radioOf mode) room chips kept g (at + size)
-        unfolding followed keptAt
-        turns =
-            let way = turned-scan (radioOf mode) (sound mode) room chips octets h at L
-            (rw is at l) (low mode) x symbol-is g (eg ∙ ap (roomed room h) (ef ∙ rw m)) kept (ek ∙ rw m) in
-            (λ n. rw is (way .0 n), way .1)
+        -- the loop over their eights leaves both loops where a byte is no chip
+        pub eights-stop : bad part ≡ true → (g : Hand) → g ≡ stopped NOCHIP h → Tells (radioOf mode) room (reading (radioOf mode) room chips) octets g
+        eights-stop b g q = rw q (scan-bad (radioOf mode) (sound mode) room chips octets h at L (rw is at l) (rw part-is at b))
+
+        -- and after the last one the symbol is taken
+        module _ (f : Hand) (ef : f ≡ followed mode h (symbolOf (radioOf mode) part)) (g : Hand)
+            (eg : g ≡ roomed room h f) (kept : List ℕ) (ek : kept ≡ keptAt mode g octets) where
+          pub turns : Turning (radioOf mode) room chips kept g (at + size)
+          unfolding followed keptAt
+          turns =
+              let way = turned-scan (radioOf mode) (sound mode) room chips octets h at L (rw is at l)
+              (low mode) _ (ap (symbolOf (radioOf mode)) part-is) g (eg ∙ ap (roomed room h) (ef ∙ rw m)) kept (ek ∙ rw m) in
+              (λ n. rw is (way .0 n), way .1)

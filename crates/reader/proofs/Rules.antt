@@ -3,8 +3,8 @@
 use mathlib.Core.Path.{_≡_, refl, sym, _∙_}
 use mathlib.Core.Bool.{Bool, true, false, not}
 use mathlib.Core.Logic.{_⊎_, inl, inr}
-use Prim.Native.Nat.{ℕ, suc, _+_, _*_, _≤_, _<_}
-use native.Mathlib.Nat.{mul-le-mul-right, le-add-right}
+use Prim.Native.Nat.{ℕ, suc, _+_, _*_, _%_, _≤_, _<_}
+use native.Mathlib.Nat.{mul-le-mul-right, mul-mod-left, le-add-right}
 use native.Mathlib.Omega.{arith}
 use lib.Dec.{eqb, leb, ltb}
 use borrow.Author.Tests.{lt-ltb, le-ltb, eq-eqb, ne-eqb, eqb-true, leb-true, leb-false, ltb-true, ltb-false, not-false}
@@ -14,7 +14,7 @@ use Rattle.codes.proofs.Tests.{by-test, not-both}
 use Rattle.frame.specs.Frame.{startOctet}
 use Rattle.reader.specs.declared.Hand.{Hand}
 use Rattle.reader.specs.Order.{both, ends, rules}
-use Rattle.reader.specs.Taking.{stopped, moved, onward, roomed}
+use Rattle.reader.specs.Taking.{stopped, lengthAfter, preambled, moved, onward, roomed}
 
 -- one test and another
 pub neither : (a b : Bool) → (a ≡ true → b ≡ false) → both a b ≡ false
@@ -31,6 +31,19 @@ ends-is per k s m e h = eq-eqb (suc s) (suc k * per) (omega arith)
 
 pub ends-not : (per k s m : ℕ) → m ≡ suc k * per → (s + 1 ≡ m → ⊥) → ends per k s ≡ false
 ends-not per k s m e h = ne-eqb (suc s) (suc k * per) (λ x. h (omega arith))
+
+-- a symbol that isn't an octet's last ends no octet
+module _ (per s : ℕ) (i : (s + 1) % per ≡ 0 → ⊥) where
+  ends-none : (k : ℕ) → ends per k s ≡ false
+  ends-none k = ends-not per k s (suc k * per) refl (λ e. i (rw e (mul-mod-left (suc k) per)))
+
+  -- so only the preamble's rule speaks of it, and it brings no length
+  pub inside-rules : (raw start n : ℕ) → preambled per s raw ≡ rules per 127 s raw start n
+  unfolding rules
+  inside-rules raw start n = rw (ends-none 4, ends-none 5, ends-none (5 + n))
+
+  pub inside-length : (n octet : ℕ) → n ≡ lengthAfter per s n octet
+  inside-length n octet = rw (ends-none 5)
 
 -- the tests in order, with room for every report
 module _ (per s raw start n : ℕ) where

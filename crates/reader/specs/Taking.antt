@@ -4,12 +4,13 @@
 -- are, they are reduced or wrap, and no sum overflows. The stepping receiver's push names
 -- `followed` and `keptAt`: of a forged record that passes its test they are all that is said.
 use mathlib.Core.Path.{_≡_}
+use mathlib.Core.Bool.{not}
 use Prim.Native.Nat.{ℕ, _+_, _-_, _*_, _/_, _%_, _^_, _≤_}
 use mathlib.Core.List.{List}
 use lib.ListN.{length, take, set}
 use lib.Seq.{paste}
 use lib.Dec.{eqb, leb, ltb}
-use Rattle.codes.specs.Numbers.{DONE, BADMODE, NOROOM, RUNOUT, MORE}
+use Rattle.codes.specs.Numbers.{DONE, BADMODE, NOROOM, RUNOUT, PREAMBLE, MORE}
 use Rattle.codes.specs.Chips.{pick}
 use Rattle.codes.specs.Radio.{Radio, known, radioOf}
 use Rattle.codes.specs.declared.Symbol.{Symbol}
@@ -17,7 +18,7 @@ use Rattle.frame.specs.Frame.{perOctet}
 use Rattle.reader.specs.declared.Hand.{Hand}
 use Rattle.reader.specs.declared.Reading.{Reading}
 use Rattle.reader.specs.Received.{rawAfter}
-use Rattle.reader.specs.Order.{Answer, refused, done, ends, rules}
+use Rattle.reader.specs.Order.{Answer, refused, done, both, ends, rules}
 use Rattle.reader.specs.Read.{told}
 
 -- before the first symbol
@@ -40,6 +41,10 @@ shifted r octet raw = octet % 256 / 2 ^ r .bits + raw * (256 / 2 ^ r .bits)
 -- n, which the last symbol of the length octet brings
 abbrev pub lengthAfter : ℕ → ℕ → ℕ → ℕ → ℕ
 lengthAfter per s n octet = pick (ends per 5 s) octet n
+
+-- rule 4, the only one for a symbol that isn't an octet's last
+abbrev pub preambled : ℕ → ℕ → ℕ → ℕ
+preambled per s raw = pick (both (ltb s (4 * per)) (not (eqb raw 0))) PREAMBLE MORE
 
 -- one symbol more, with its number, n, distance, value and octet
 abbrev pub moved : Hand → ℕ → ℕ → ℕ → ℕ → ℕ → Hand
@@ -75,6 +80,10 @@ followed mode h x =
 -- a report buffer shorter than n
 abbrev pub roomed : ℕ → Hand → Hand → Hand
 roomed room h next = pick (ltb room (next .length)) (stopped NOROOM h) next
+
+-- within an octet, there is room for what n says
+abbrev pub Inside : ℕ → ℕ → Hand → Type 0
+Inside mode room h = (h .taken % perOctet (radioOf mode) ≡ 0 → ⊥) → h .length ≤ room
 
 -- the octets of the report, with the one in hand where it is whole and one of them
 abbrev pub keptIn : ℕ → Hand → List ℕ → List ℕ

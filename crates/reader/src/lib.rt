@@ -4,13 +4,17 @@
 // whole reading's answer (proofs/Sofar.antt, proofs/Scanning.antt).
 ghost use mathlib.Core.Path.{_≡_};
 ghost use mathlib.Core.Bool.{true};
-ghost use Prim.Native.Nat.{_≤_, _<_};
+ghost use Prim.Native.Nat.{_≤_, _<_, _/_, _%_};
 ghost use lib.ListN.{length};
+ghost use lib.Dec.{eqb};
 ghost use Rattle.codes.specs.Radio.{known, radioOf};
+ghost use Rattle.codes.specs.Gathered.{symbolIn};
 ghost use Rattle.frame.specs.Outcome.{outcome};
+ghost use Rattle.frame.specs.Frame.{perOctet};
 ghost use Rattle.reader.specs.Order.{refused, rules, reading};
 ghost use Rattle.reader.specs.Read.{told, readOf};
-ghost use Rattle.reader.specs.Taking.{begun, stopped, rawFrom, shifted, lengthAfter, moved, onward, followed, roomed, storedIn, keptAt, toldBy, Tells};
+ghost use Rattle.reader.specs.Taking.{begun, stopped, rawFrom, shifted, lengthAfter, preambled, moved, onward, followed};
+ghost use Rattle.reader.specs.Taking.{roomed, Inside, storedIn, keptAt, toldBy, Tells};
 
 // What the reader gives back: 0, the number of symbols in the frame, the report's length and the
 // number of chips repaired; or a refusal, the number of the symbol where it stands, 0 and 0.
@@ -48,34 +52,30 @@ pub fn read(mode: u32, chips: &[u8], report: &mut [u8]) -> Reading
     answer
 }
 
-// The reading order over the buffer. Matching tests a symbol's bytes without an exit, so that
-// nothing keeps the back end from looking at many at a time; only where one is no chip does the
-// loop over chips run, which then leaves at it. That answers what `follow` would answer too: the
-// loop is the document's form for this place. A refusal leaves the loops with the hand's number and
-// place. `keep` stands before the last test, so that the frame's last octet is kept too.
+// The reading order over the buffer. The loop over a symbol's chips takes them eight at a time: it
+// leaves both loops where one is no chip, with 5 and the place, and gathers the bits that matching
+// takes. A refusal leaves the loop over symbols with the hand's number and place. `settle` stands
+// before the last test, so that the frame's last octet is kept too.
 fn scan(mode: u32, chips: &[u8], room: usize, octets: &mut [u8; 127]) -> Hand
     requires { ⌜ (known mode ≡ true) × (length (now octets) ≡ 127) ⌝ }
     ensures { λ r. ⌜ Tells (radioOf mode) room (reading (radioOf mode) room (now (chips .entry))) (now (octets .exit)) r ⌝ }
 {
-    let words = codes::table(mode);
     let size = codes::size_of(mode);
     let mut hand = begin();
     let mut at: usize = 0;
     'symbols: while size <= chips.len() - at {
-        let symbol = codes::matched(mode, &words, chips, at);
-        if symbol.number == codes::NOCHIP {
-            let mut k: usize = 0;
-            'chips: while k < size {
-                if 1 < chips[at + k] {
-                    hand = stop(codes::NOCHIP, hand);
-                    break 'symbols;
-                }
-                k += 1;
+        let part = &chips[at..at + size];
+        let mut bits: u64 = 0;
+        let mut k: usize = 0;
+        'chips: while k < codes::EIGHTS {
+            bits = codes::gather(mode, part, k, bits);
+            if bits == codes::NOEIGHT {
+                hand = stop(codes::NOCHIP, hand);
+                break 'symbols;
             }
+            k += 1;
         }
-        let next = follow(mode, hand, symbol);
-        hand = with_room(room, hand, next);
-        keep(mode, hand, octets);
+        hand = settle(mode, room, hand, take(mode, hand, bits), octets);
         if hand.number != codes::MORE {
             break 'symbols;
         }
@@ -112,6 +112,17 @@ fn stop(number: u32, hand: Hand) -> Hand
     }
 }
 
+// The symbol that gathered bits say, taken. Each mode's way is made by itself, of constants.
+fn take(mode: u32, hand: Hand, bits: u64) -> Hand
+    requires { ⌜ known mode ≡ true ⌝ }
+    ensures { λ r. ⌜ r ≡ followed mode hand (symbolIn mode bits) ⌝ }
+{
+    if mode == 0 {
+        return follow(0, hand, codes::matched(0, bits));
+    }
+    follow(1, hand, codes::matched(1, bits))
+}
+
 // What follows a match, at the symbol after those taken: 1, the symbol's own number where it isn't
 // 0, then 7, 8 and 9; 0 where the frame is complete, 13 where more is wanted. A refusal leaves the
 // other numbers as they were. The hand and the symbol may hold anything: hence what is reduced or
@@ -128,9 +139,34 @@ pub fn follow(mode: u32, hand: Hand, symbol: codes::Symbol) -> Hand
     }
     let raw = raw_of(mode, hand.last, symbol.value);
     let octet = shift(mode, hand.octet, raw);
+    if !whole(mode, hand.taken as usize + 1) {
+        let number = inside(per, hand.taken, raw);
+        return advance(hand, number, hand.length, symbol, octet);
+    }
     let length = length_after(per, hand.taken, hand.length, octet);
     let number = rule(per, hand.taken, raw, octet, length);
     advance(hand, number, length, symbol, octet)
+}
+
+// Whether so many symbols are whole octets. (A remainder by a number that is not constant would be
+// a division.)
+fn whole(mode: u32, symbols: usize) -> bool
+    requires { ⌜ known mode ≡ true ⌝ }
+    ensures { λ r. ⌜ r ≡ eqb (symbols % perOctet (radioOf mode)) 0 ⌝ }
+{
+    if mode == 0 {
+        symbols % 8 == 0
+    } else {
+        symbols % 2 == 0
+    }
+}
+
+// The octets that so many symbols make.
+fn octets_in(mode: u32, symbols: usize) -> usize
+    requires { ⌜ known mode ≡ true ⌝ }
+    ensures { λ r. ⌜ r ≡ symbols / perOctet (radioOf mode) ⌝ }
+{
+    if mode == 0 { symbols / 8 } else { symbols / 2 }
 }
 
 // One symbol more, unless the number is a refusal.
@@ -186,6 +222,17 @@ fn length_after(per: usize, taken: u32, length: u32, octet: u32) -> u32
     }
 }
 
+// Rule 4, the only one for a symbol that isn't an octet's last: 7, else 13.
+fn inside(per: usize, taken: u32, raw: u32) -> u32
+    requires { ⌜ per ≤ 8 ⌝ }
+    ensures { λ r. ⌜ r ≡ preambled per taken raw ⌝ }
+{
+    if (taken as usize) < 4 * per && raw != 0 {
+        return codes::PREAMBLE;
+    }
+    codes::MORE
+}
+
 // Rules 4 to 6 with room for every report: 7, 8, 9, then 0 on the last symbol of the frame,
 // else 13.
 fn rule(per: usize, taken: u32, raw: u32, octet: u32, n: u32) -> u32
@@ -208,6 +255,21 @@ fn rule(per: usize, taken: u32, raw: u32, octet: u32, n: u32) -> u32
     codes::MORE
 }
 
+// What a whole octet brings: the test of room, and the octet itself. Within an octet n stands as it
+// was and nothing is to be kept, so most symbols pass here with one test.
+fn settle(mode: u32, room: usize, hand: Hand, next: Hand, octets: &mut [u8; 127]) -> Hand
+    requires { ⌜ (known mode ≡ true) × Inside mode room next ⌝ }
+    ensures { λ r. ⌜ r ≡ roomed room hand next ⌝ }
+    ensures { λ r. ⌜ now (octets .exit) ≡ keptAt mode r (now (octets .entry)) ⌝ }
+{
+    if !whole(mode, next.taken as usize) {
+        return next;
+    }
+    let held = with_room(room, hand, next);
+    keep(mode, held, octets);
+    held
+}
+
 // A report buffer shorter than n: 3.
 fn with_room(room: usize, hand: Hand, next: Hand) -> Hand
     ensures { λ r. ⌜ r ≡ roomed room hand next ⌝ }
@@ -228,17 +290,17 @@ pub fn keep(mode: u32, hand: Hand, octets: &mut [u8; 127])
     if per == 0 {
         return;
     }
+    let taken = hand.taken as usize;
+    if !whole(mode, taken) {
+        return;
+    }
     if hand.number != codes::MORE && hand.number != codes::DONE {
         return;
     }
-    let taken = hand.taken as usize;
     if taken < 7 * per {
         return;
     }
-    if taken % per != 0 {
-        return;
-    }
-    let k = taken / per - 7;
+    let k = octets_in(mode, taken) - 7;
     if k < 127 {
         octets[k] = (hand.octet % 256) as u8;
     }

@@ -7,12 +7,12 @@ use Prim.Native.Nat.{ℕ, _+_, _*_, _≤_, _<_}
 use native.Mathlib.Omega.{arith}
 use lib.Dec.{eqb, leb, ltb}
 use lib.ListN.{length, take}
-use lib.Seq.{length-take-le, take-all}
+use lib.Seq.{length-take-le}
 use borrow.Author.Tests.{lt-ltb, le-ltb, le-leb, lt-leb, eq-eqb, ne-eqb, eqb-true, eqb-false, ltb-true, ltb-false}
 use Rattle.codes.specs.Numbers.{DONE, BADMODE, NOROOM, RUNOUT, ENDED, BADPART, NOTENDED, MORE, FORGED}
 use Rattle.codes.specs.Chips.{pick}
 use Rattle.codes.specs.Radio.{known, radioOf}
-use Rattle.codes.specs.Symbol.{symbolAt, symbolOf}
+use Rattle.codes.specs.Symbol.{symbolOf}
 use Rattle.codes.specs.Lent.{sizeAt, limitAt}
 use Rattle.codes.specs.declared.Symbol.{Symbol}
 use Rattle.codes.proofs.Tests.{by-test, not-both}
@@ -122,13 +122,6 @@ module _ (c : Receiver) where
     passed-length = by-test (ltb 127 (c .length))
         (λ l. not-both (forged c) (sym (forged-long g passed-known (ltb-true 127 (c .length) l))) f) (ltb-false 127 (c .length))
 
--- a part that is one symbol is the symbol at its start
-whole-part : (mode : ℕ) (part : List ℕ) → known mode ≡ true → length part ≡ radioOf mode .size → symbolAt mode part 0 ≡ symbolOf (radioOf mode) part
-unfolding symbolAt
-whole-part mode part k e =
-    rw (k, le-ltb (length part) (0 + radioOf mode .size) (omega arith))
-    (ap (λ (l : List ℕ). symbolOf (radioOf mode) l) (take-all (radioOf mode .size) part (omega arith)))
-
 -- the ways of `push`
 module _ (c : Receiver) (part : List ℕ) where
   pub push-forged : forged c ≡ true → step FORGED c ≡ pushOf c part
@@ -148,12 +141,14 @@ module _ (c : Receiver) (part : List ℕ) where
       unfolding pushOf
       push-part n = rw (f, eq-eqb (c .ended) MORE o, ← size-is, ne-eqb (length part) size n)
 
-      pub push-symbol : length part ≡ size → tookSymbol c (symbolAt (c .mode) part 0) ≡ pushOf c part
-      unfolding pushOf
-      push-symbol l =
-          let w : length part ≡ radioOf (c .mode) .size = l ∙ size-is in
-          rw (f, eq-eqb (c .ended) MORE o, eq-eqb (length part) (radioOf (c .mode) .size) w)
-          (ap (tookSymbol c) (whole-part (c .mode) part (passed-known c f (inl o)) w))
+      module _ (l : length part ≡ size) where
+        -- the part is one symbol
+        pub part-whole : (known (c .mode) ≡ true) × (length part ≡ radioOf (c .mode) .size)
+        part-whole = (passed-known c f (inl o), l ∙ size-is)
+
+        pub push-symbol : tookSymbol c (symbolOf (radioOf (c .mode)) part) ≡ pushOf c part
+        unfolding pushOf
+        push-symbol = rw (f, eq-eqb (c .ended) MORE o, eq-eqb (length part) (radioOf (c .mode) .size) (part-whole .1))
 
 -- the way of `follow`
 pub took : (c : Receiver) (x : Symbol) (h next : Hand) (octets : List ℕ) → h ≡ handOf c

@@ -3,6 +3,10 @@
 // pattern is a record, and each call says what it makes of it. A symbol is taken by the reader's
 // own functions, so the laws of the reader's loop carry over (proofs/Stepping.antt).
 ghost use mathlib.Core.Path.{_≡_};
+ghost use mathlib.Core.Bool.{true};
+ghost use lib.ListN.{length};
+ghost use Rattle.codes.specs.Radio.{known, radioOf};
+ghost use Rattle.codes.specs.Symbol.{symbolOf};
 ghost use Rattle.frame.specs.Outcome.{outcome};
 ghost use Rattle.reader.specs.Read.{told};
 ghost use Rattle.receiver.specs.Record.{step, fresh, startOf, forged, handOf, tookSymbol, pushOf, finishOf, takes, takeOf};
@@ -61,7 +65,7 @@ impl Receiver {
         if part.len() != codes::size_of(self.mode) {
             return self.answer(codes::BADPART);
         }
-        self.follow(codes::read_symbol(self.mode, part, 0))
+        self.follow(read_by_mode(self.mode, part))
     }
 
     // No more symbols: an open record ends with 4. 34 and 10 give the record back as it was.
@@ -188,6 +192,38 @@ impl Receiver {
             count: self.count,
         }
     }
+}
+
+// Each mode's loop is made by itself, of constants.
+fn read_by_mode(mode: u32, part: &[u8]) -> codes::Symbol
+    requires { ⌜ (known mode ≡ true) × (length (now part) ≡ radioOf mode .size) ⌝ }
+    ensures { λ r. ⌜ r ≡ symbolOf (radioOf mode) (now (part .entry)) ⌝ }
+{
+    if mode == 0 {
+        return read_part(0, part);
+    }
+    read_part(1, part)
+}
+
+// The symbol of a part that is one symbol long: gathered and matched as the reader does it.
+fn read_part(mode: u32, part: &[u8]) -> codes::Symbol
+    requires { ⌜ (known mode ≡ true) × (length (now part) ≡ radioOf mode .size) ⌝ }
+    ensures { λ r. ⌜ r ≡ symbolOf (radioOf mode) (now (part .entry)) ⌝ }
+{
+    let mut bits: u64 = 0;
+    let mut k: usize = 0;
+    while k < codes::EIGHTS {
+        bits = codes::gather(mode, part, k, bits);
+        if bits == codes::NOEIGHT {
+            return codes::Symbol {
+                number: codes::NOCHIP,
+                value: 0,
+                distance: 0,
+            };
+        }
+        k += 1;
+    }
+    codes::matched(mode, bits)
 }
 
 // All 0 but the mode and the number.

@@ -1,14 +1,11 @@
 -- `judge` meets its contract: the same test as in the definition, an answer a side.
 -- Assumes nothing.
-use Rattle.codes.specs.Matching.{judged}
+use Rattle.codes.specs.Columns.{judged}
 use Rattle.codes.proofs.Tests.{tests}
 use borrow.Author.Needs.{needs}
 use borrow.Author.Tests.{lt-leb}
 use Rattle.codes.proofs.judge.Statement.{statement}
 use Rattle.codes.proofs.judge.Tie as tie
-
-cast-t4 : tie.Need-cast-t4
-cast-t4 c = search needs
 
 returns : tie.Need-returns
 unfolding judged
@@ -22,4 +19,4 @@ unfolding judged
 returns-2 c = rw (lt-leb _ _ (c .before .if1 .left)) (c .refusal .ensures)
 
 pub judge-spec : {M : Type 1} → statement M
-judge-spec = tie.close (tie.spec cast-t4 returns refusal-requires returns-2)
+judge-spec = tie.close (tie.spec returns refusal-requires returns-2)

@@ -6,35 +6,37 @@ use Rattle.frame.proofs.Octets.{preamble-octet, report-octet}
 use Rattle.frame.proofs.octet_at.Statement.{statement}
 use Rattle.frame.proofs.octet_at.Tie as tie
 
-returns : tie.Need-returns
-returns c = sym (preamble-octet (c .before .args .report .now) (c .before .args .j) (c .if1 .taken))
-
-returns-2 : tie.Need-returns-2
-returns-2 c = search needs
-
-cast-result : tie.Need-cast-result
-cast-result c = search needs
-
-returns-3 : tie.Need-returns-3
-returns-3 c = rw (c .if3 .taken)
-
 sub-result : tie.Need-sub-result
 sub-result c = search needs
 
 shared-slice-read-result : tie.Need-shared-slice-read-result
 shared-slice-read-result c = search needs
 
+returns : tie.Need-returns
+returns c = let a = c .before .before .args in sym (report-octet (a .report .now) (a .j) (c .before .if1 .taken))
+
+cast-result : tie.Need-cast-result
+cast-result c = search needs
+
+returns-2 : tie.Need-returns-2
+returns-2 c = rw (c .if2 .taken)
+
+returns-3 : tie.Need-returns-3
+returns-3 c = search needs
+
 returns-4 : tie.Need-returns-4
-returns-4 c = let a = c .before .before .before .before .args in sym (report-octet (a .report .now) (a .j) (omega arith))
+returns-4 c =
+    let a = c .before .before .before .args in
+    sym (preamble-octet (a .report .now) (a .j) (omega (arith, c .before .before .if1 .left, c .before .if2 .left, c .if3 .left)))
 
 pub octet-at-spec : {M : Type 1} → statement M
 octet-at-spec =
     tie.close
     (tie.spec
-    returns
-    returns-2
-    cast-result
-    returns-3
     sub-result
     shared-slice-read-result
+    returns
+    cast-result
+    returns-2
+    returns-3
     returns-4)

@@ -1,83 +1,115 @@
--- `scan` meets its contract: what is still to be read stays the reading's answer (Scanning.antt).
--- Assumes nothing.
+-- `scan` meets its contract: what is still to be read stays the reading's answer (Scanning.antt),
+-- and the bits are those of the eights so far (Gathering.antt of `codes`). Assumes nothing.
 use Prim.Native.Nat.{_+_, _-_, _≤_}
 use mathlib.Core.Path.{_≡_, refl, ap, _∙_}
-use mathlib.Core.Logic.{⊎-elim}
 use native.Mathlib.Omega.{arith}
-use lib.ListN.{length}
+use borrow.Author.Needs.{needs}
+use lib.ListN.{length, take, drop}
 use Rattle.codes.specs.Numbers.{NOCHIP}
 use Rattle.codes.specs.Radio.{radioOf}
-use Rattle.reader.specs.Taking.{stopped}
+use Rattle.codes.proofs.Gathering.{Loop, loop-starts, loop-goes-on, loop-stops, loop-ends}
+use Rattle.reader.specs.Taking.{stopped, followed}
+use Rattle.reader.proofs.Steps.{followed-inside}
 use Rattle.reader.proofs.Scanning.{Scanning, Turning}
-use Rattle.reader.proofs.Modes.{bad-byte, size-positive, starts, runs-out, stops-bad, turns}
+use Rattle.reader.proofs.Modes.{size-positive, starts, runs-out, part-long, eights-stop, turns}
 use Rattle.reader.proofs.scan.Statement.{statement}
 use Rattle.reader.proofs.scan.Tie as tie
 use Rattle.reader.proofs.scan.Reads as reads
 use Rattle.reader.proofs.scan.Lts as lts
-use Rattle.codes.proofs.table.Reads as table-reads
+use Rattle.codes.proofs.gather.Reads as gather-reads
 use Rattle.codes.proofs.size_of.Reads as size-of-reads
-use Rattle.codes.proofs.matched.Reads as matched-reads
 use Rattle.reader.proofs.begin.Reads as begin-reads
 use Rattle.reader.proofs.stop.Reads as stop-reads
-use Rattle.reader.proofs.follow.Reads as follow-reads
-use Rattle.reader.proofs.with_room.Reads as with-room-reads
-use Rattle.reader.proofs.keep.Reads as keep-reads
+use Rattle.reader.proofs.take.Reads as take-reads
+use Rattle.reader.proofs.settle.Reads as settle-reads
 
 abbrev Inv-chips : tie.InvT-chips
-Inv-chips mode chips room octets words size hand₀ at symbol k₀ hand k = (k ≤ size) × (hand ≡ hand₀)
+Inv-chips mode chips room octets size hand₀ at part bits₀ k₀ hand bits k = (hand ≡ hand₀) × Loop mode part k bits
 
 abbrev μ-chips : tie.MeasureT-chips
-μ-chips mode chips room octets words size hand₀ at symbol k₀ hand k = size - k
+μ-chips mode chips room octets size hand₀ at part bits₀ k₀ hand bits k = 4 - k
 
 abbrev Inv-symbols : tie.InvT-symbols
-Inv-symbols mode chips room octets₀ words size hand₀ at₀ octets hand at = Scanning (radioOf mode) room chips octets hand at
+Inv-symbols mode chips room octets₀ size hand₀ at₀ octets hand at = Scanning (radioOf mode) room chips octets hand at
 
 abbrev μ-symbols : tie.MeasureT-symbols
-μ-symbols mode chips room octets₀ words size hand₀ at₀ octets hand at = length chips - at
+μ-symbols mode chips room octets₀ size hand₀ at₀ octets hand at = length chips - at
 
--- the state after a turn
-abbrev Turn : Type 0
-Turn =
-    lts.After-struct-known2 (
-      table-reads.Asked,
-      table-reads.Learnt,
+-- the state in the loop over a symbol's eights, and after a turn of the loop over symbols
+abbrev Eights : Type 0
+Eights =
+    lts.At-chips (
       size-of-reads.Asked,
       size-of-reads.Learnt,
       begin-reads.Asked,
       begin-reads.Learnt,
-      matched-reads.Asked,
-      matched-reads.Learnt,
+      gather-reads.Asked,
+      gather-reads.Learnt,
       stop-reads.Asked,
       stop-reads.Learnt,
-      follow-reads.Asked,
-      follow-reads.Learnt,
-      with-room-reads.Asked,
-      with-room-reads.Learnt,
-      keep-reads.Asked,
-      keep-reads.Learnt,
+      take-reads.Asked,
+      take-reads.Learnt,
+      settle-reads.Asked,
+      settle-reads.Learnt,
     )
     reads.Pre reads.Post Inv-chips μ-chips Inv-symbols μ-symbols
 
-turn : (c : Turn)
-    → Turning (radioOf (c .before .before .before .before .before .before .before .before .before .before .before .before .before .before .before .args .mode))
-    (c .before .before .before .before .before .before .before .before .before .before .before .before .before .before .before .args .room)
-    (c .before .before .before .before .before .before .before .before .before .before .before .before .before .before .before .args .chips .now)
-    (c .before .keep .last .1 .1 .0) (c .before .before .before .with-room .result)
-    (c .before .before .before .before .before .before .before .before .before .before .symbols .at
-    + c .before .before .before .before .before .before .before .before .before .before .before .before .size-of .result)
-turn c =
-    let j = c .before .before .before .before .before in
-    let q = j .before .before .before .before .before in
-    let s = q .before .before .before .before .before in
-    let z = q .before .before .size-of .ensures in
-    let i : j .if1 .hand ≡ q .symbols .hand = ⊎-elim (λ w. w .3 ∙ w .1 .inv .1) (λ w. w .1) (j .if1 .came) in
-    turns (s .args .mode) (s .pre .0) (s .args .room) (s .args .chips .now) (q .symbols .octets) (j .if1 .hand) (q .symbols .at) _
-    z (rw i (q .symbols .inv)) (j .before .before .before .before .symbols-test .taken) _ (q .before .before .before .table .ensures)
-    _ (j .before .before .matched .ensures) _ (c .before .before .before .before .follow .ensures)
-    _ (c .before .before .before .with-room .ensures) _ (c .before .keep .ensures)
+abbrev Turn : Type 0
+Turn =
+    lts.After-settle (
+      size-of-reads.Asked,
+      size-of-reads.Learnt,
+      begin-reads.Asked,
+      begin-reads.Learnt,
+      gather-reads.Asked,
+      gather-reads.Learnt,
+      stop-reads.Asked,
+      stop-reads.Learnt,
+      take-reads.Asked,
+      take-reads.Learnt,
+      settle-reads.Asked,
+      settle-reads.Learnt,
+    )
+    reads.Pre reads.Post Inv-chips μ-chips Inv-symbols μ-symbols
 
-table-requires : tie.Need-table-requires Inv-chips μ-chips Inv-symbols μ-symbols
-table-requires c κs = tt
+-- the part is one symbol long
+long-part : (c : Eights)
+    → length (take
+    (c .before .before .before .symbols .at + c .before .before .before .before .before .size-of .result - c .before .before .before .symbols .at)
+    (drop (c .before .before .before .symbols .at) (c .before .before .before .before .before .before .before .args .chips .now)))
+    ≡ radioOf (c .before .before .before .before .before .before .before .args .mode) .size
+long-part c =
+    let i = c .before .before in
+    let q = i .before in
+    let s = q .before .before .before .before in
+    part-long (s .args .mode) (s .pre .0) (s .args .room) (s .args .chips .now) (q .symbols .octets) (q .symbols .hand) (q .symbols .at)
+    _ (q .before .before .size-of .ensures) (q .symbols .inv) (i .symbols-test .taken) _ refl
+
+turn : (c : Turn)
+    → Turning (radioOf (c .before .before .before .before .before .before .before .before .before .before .before .args .mode))
+    (c .before .before .before .before .before .before .before .before .before .before .before .args .room)
+    (c .before .before .before .before .before .before .before .before .before .before .before .args .chips .now)
+    (c .settle .last .1 .1 .1 .1 .0) (c .settle .result)
+    (c .before .before .before .before .before .before .before .symbols .at
+    + c .before .before .before .before .before .before .before .before .before .size-of .result)
+turn c =
+    let k = c .before .before .before .before in
+    let i = k .before .before in
+    let q = i .before in
+    let s = q .before .before .before .before in
+    let e = loop-ends (s .args .mode) (s .pre .0) _ (long-part k) _ _ (c .before .before .before .chips-test .left) (k .chips .inv .1) in
+    turns (s .args .mode) (s .pre .0) (s .args .room) (s .args .chips .now) (q .symbols .octets) (k .chips .hand) (q .symbols .at) _
+    (q .before .before .size-of .ensures) (rw (k .chips .inv .0) (q .symbols .inv)) (i .symbols-test .taken) _ refl
+    _ (c .before .before .take .ensures ∙ ap (followed (s .args .mode) (k .chips .hand)) e)
+    _ (c .settle .ensures .0) _ (c .settle .ensures .1)
+
+-- the symbol lies in the buffer
+fits-left : (c : Turn)
+    → c .before .before .before .before .before .before .before .symbols .at
+    + c .before .before .before .before .before .before .before .before .before .size-of .result
+    ≤ length (c .before .before .before .before .before .before .before .before .before .before .before .args .chips .now)
+fits-left c = let i = c .before .before .before .before .before .before in
+    omega (arith, i .before .symbols .inv .upto, i .symbols-test .taken)
 
 size-of-requires : tie.Need-size-of-requires Inv-chips μ-chips Inv-symbols μ-symbols
 size-of-requires c κs = tt
@@ -87,105 +119,96 @@ begin-requires c κs = tt
 
 symbols-holds : tie.Need-symbols-holds Inv-chips μ-chips Inv-symbols μ-symbols
 symbols-holds c =
-    let s = c .before .before .before .before in
+    let s = c .before .before .before in
     starts (s .args .mode) (s .pre .0) (s .args .room) (s .args .chips .now) (s .args .octets .now) (c .begin .result) (c .begin .ensures) (s .pre .1)
 
 sub-symbols : tie.Need-sub-symbols Inv-chips μ-chips Inv-symbols μ-symbols
 sub-symbols c = c .symbols .inv .upto
 
-matched-requires : tie.Need-matched-requires Inv-chips μ-chips Inv-symbols μ-symbols
-matched-requires c κs = tt
+add-part : tie.Need-add-part Inv-chips μ-chips Inv-symbols μ-symbols
+add-part c = omega (arith, c .before .symbols .inv .upto, c .symbols-test .taken, c .before .before .before .before .before .good)
+
+sub-part : tie.Need-sub-part Inv-chips μ-chips Inv-symbols μ-symbols
+sub-part c = omega arith
+
+part-part-start : tie.Need-part-part-start Inv-chips μ-chips Inv-symbols μ-symbols
+part-part-start c = search needs
+
+part-part-end : tie.Need-part-part-end Inv-chips μ-chips Inv-symbols μ-symbols
+part-part-end c = omega (arith, c .before .symbols .inv .upto, c .symbols-test .taken)
 
 chips-holds : tie.Need-chips-holds Inv-chips μ-chips Inv-symbols μ-symbols
-chips-holds c = (omega arith, refl)
+chips-holds c = let s = c .before .before .before .before .before .before in
+    (refl, loop-starts (s .args .mode) (s .pre .0) _)
 
-add-if2 : tie.Need-add-if2 Inv-chips μ-chips Inv-symbols μ-symbols
-add-if2 c =
-    let q = c .before .before .before .before .before .before .before in
-    omega (
-      arith,
-      q .symbols .inv .upto,
-      c .before .before .before .before .before .before .symbols-test .taken,
-      c .chips-test .taken,
-      q .before .before .before .before .before .good,
-    )
-
-shared-slice-read-if2 : tie.Need-shared-slice-read-if2 Inv-chips μ-chips Inv-symbols μ-symbols
-shared-slice-read-if2 c =
-    let q = c .before .before .before .before .before .before .before .before in
-    omega (arith, q .symbols .inv .upto, c .before .before .before .before .before .before .before .symbols-test .taken, c .before .chips-test .taken)
+gather-requires : tie.Need-gather-requires Inv-chips μ-chips Inv-symbols μ-symbols
+gather-requires c κs = tt
 
 stop-requires : tie.Need-stop-requires Inv-chips μ-chips Inv-symbols μ-symbols
 stop-requires c κs = tt
 
 add-k : tie.Need-add-k Inv-chips μ-chips Inv-symbols μ-symbols
-add-k c =
-    let q = c .before .before .before .before .before .before .before .before .before in
-    omega (
-      arith,
-      c .before .before .chips-test .taken,
-      c .before .before .before .before .before .before .before .before .symbols-test .taken,
-      q .before .before .before .before .before .good,
-    )
+add-k c = omega (arith, c .before .before .chips-test .taken)
 
 chips-less : tie.Need-chips-less Inv-chips μ-chips Inv-symbols μ-symbols
 chips-less c = omega (arith, c .before .before .chips-test .taken)
 
 chips-again : tie.Need-chips-again Inv-chips μ-chips Inv-symbols μ-symbols
-chips-again c = (omega (arith, c .before .before .chips-test .taken), c .before .before .before .chips .inv .1)
+chips-again c =
+    let k = c .before .before .before in
+    let s = k .before .before .before .before .before .before .before in (
+      k .chips .inv .0,
+      loop-goes-on (s .args .mode) (s .pre .0) _ (long-part k) _ (c .before .before .chips-test .taken)
+          _ (k .chips .inv .1) _ (c .before .gather .ensures) (c .if1 .left),
+    )
 
-follow-requires : tie.Need-follow-requires Inv-chips μ-chips Inv-symbols μ-symbols
-follow-requires c κs = tt
+take-requires : tie.Need-take-requires Inv-chips μ-chips Inv-symbols μ-symbols
+take-requires c κs = c .before .before .before .before .before .before .before .before .pre .0
 
-with-room-requires : tie.Need-with-room-requires Inv-chips μ-chips Inv-symbols μ-symbols
-with-room-requires c κs = tt
-
-keep-requires : tie.Need-keep-requires Inv-chips μ-chips Inv-symbols μ-symbols
-keep-requires c κs = tt
+settle-requires : tie.Need-settle-requires Inv-chips μ-chips Inv-symbols μ-symbols
+settle-requires c κs =
+    let q = c .before .before .before .before .before .before in
+    let s = q .before .before .before .before in
+    let k = c .before .before .before in (
+      s .pre .0,
+      rw (c .before .take .ensures)
+          (followed-inside (s .args .mode) (s .args .room) (k .chips .hand) (rw (k .chips .inv .0) (q .symbols .inv .sofar .goes .fits)) _),
+    )
 
 add-at : tie.Need-add-at Inv-chips μ-chips Inv-symbols μ-symbols
-add-at c =
-    let q = c .before .before .before .before .before .before .before .before .before .before .before in
-    omega (
-      arith,
-      q .symbols .inv .upto,
-      c .before .before .before .before .before .before .before .before .before .before .symbols-test .taken,
-      q .before .before .before .before .before .good,
-    )
+add-at c = let s = c .before .before .before .before .before .before .before .before .before .before .before .before .before in
+    omega (arith, fits-left (c .before .before), s .good)
 
 symbols-less : tie.Need-symbols-less Inv-chips μ-chips Inv-symbols μ-symbols
 symbols-less c =
-    let q = c .before .before .before .before .before .before .before .before .before .before .before in
-    omega (
-      arith,
-      q .symbols .inv .upto,
-      c .before .before .before .before .before .before .before .before .before .before .symbols-test .taken,
-      size-positive (q .before .before .before .before .before .args .mode) _
-          (q .before .before .before .before .before .pre .0) (q .before .before .size-of .ensures),
-    )
+    let q = c .before .before .before .before .before .before .before .before .before in
+    let s = q .before .before .before .before in
+    omega (arith, fits-left (c .before .before), size-positive (s .args .mode) _ (s .pre .0) (q .before .before .size-of .ensures))
 
 symbols-again : tie.Need-symbols-again Inv-chips μ-chips Inv-symbols μ-symbols
-symbols-again c = turn (c .before) .0 (c .if3 .left)
+symbols-again c = turn (c .before .before) .0 (c .if2 .left)
 
 returns : tie.Need-returns Inv-chips μ-chips Inv-symbols μ-symbols
 returns c =
     let q = c .before in
-    let s = q .before .before .before .before .before in
+    let s = q .before .before .before .before in
     runs-out (s .args .mode) (s .pre .0) (s .args .room) (s .args .chips .now) _ _
     _ _ (q .before .before .size-of .ensures) (q .symbols .inv) (c .symbols-test .left)
 
 returns-2 : tie.Need-returns-2 Inv-chips μ-chips Inv-symbols μ-symbols
 returns-2 c =
-    let q = c .before .before .before .before .before .before .before .before .before .before in
-    let s = q .before .before .before .before .before in
-    let k = c .before .before .before .before .chips in
-    stops-bad (s .args .mode) (s .pre .0) (s .args .room) (s .args .chips .now) _ _ _ _ (q .before .before .size-of .ensures)
-    (q .symbols .inv) (c .before .before .before .before .before .before .before .before .before .symbols-test .taken)
-    (bad-byte (s .args .chips .now) (q .symbols .at) _ (k .k) (c .before .before .before .chips-test .taken) (c .before .if2 .taken))
-    _ (c .stop .ensures ∙ ap (stopped NOCHIP) (k .inv .1))
+    let k = c .before .before .before .before in
+    let i = k .before .before in
+    let q = i .before in
+    let s = q .before .before .before .before in
+    eights-stop (s .args .mode) (s .pre .0) (s .args .room) (s .args .chips .now) (q .symbols .octets) (q .symbols .hand) (q .symbols .at)
+    _ (q .before .before .size-of .ensures) (q .symbols .inv) (i .symbols-test .taken) _ refl
+    (loop-stops (s .args .mode) (s .pre .0) _ (long-part k) _ (c .before .before .before .chips-test .taken)
+    _ (k .chips .inv .1) _ (c .before .before .gather .ensures) (c .before .if1 .taken))
+    _ (c .stop .ensures ∙ ap (stopped NOCHIP) (k .chips .inv .0))
 
 returns-3 : tie.Need-returns-3 Inv-chips μ-chips Inv-symbols μ-symbols
-returns-3 c = turn (c .before) .1 (c .if3 .taken)
+returns-3 c = turn (c .before .before) .1 (c .if2 .taken)
 
 pub scan-spec : {M : Type 1} → statement M
 scan-spec =
@@ -195,22 +218,22 @@ scan-spec =
     μ-chips
     Inv-symbols
     μ-symbols
-    table-requires
     size-of-requires
     begin-requires
     symbols-holds
     sub-symbols
-    matched-requires
+    add-part
+    sub-part
+    part-part-start
+    part-part-end
     chips-holds
-    add-if2
-    shared-slice-read-if2
+    gather-requires
     stop-requires
     add-k
     chips-less
     chips-again
-    follow-requires
-    with-room-requires
-    keep-requires
+    take-requires
+    settle-requires
     add-at
     symbols-less
     symbols-again

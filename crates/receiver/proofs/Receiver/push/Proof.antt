@@ -2,7 +2,7 @@
 use mathlib.Core.Path.{sym, ap, _∙_}
 use Rattle.codes.specs.declared.Symbol.{Symbol}
 use Rattle.receiver.specs.Record.{tookSymbol}
-use Rattle.receiver.proofs.Ways.{push-forged, push-ended, push-part, push-symbol}
+use Rattle.receiver.proofs.Ways.{push-forged, push-ended, push-part, part-whole, push-symbol}
 use borrow.Author.Needs.{needs}
 use Rattle.receiver.proofs.Receiver.push.Statement.{statement}
 use Rattle.receiver.proofs.Receiver.push.Tie as tie
@@ -39,8 +39,12 @@ returns-3 c = let f = c .before .before .before .before .before .before in
     (sym (f .forged .ensures) ∙ c .before .before .before .before .before .if1 .left)
     (c .before .before .before .if2 .left) _ (c .before .before .size-of .ensures) (c .before .if3 .taken)
 
-read-symbol-requires : tie.Need-read-symbol-requires
-read-symbol-requires c κs = search needs
+read-by-mode-requires : tie.Need-read-by-mode-requires
+read-by-mode-requires c κs =
+    let f = c .before .before .before .before .before in
+    let a = f .before .before .args in
+    part-whole (a .self) (a .part .now) (sym (f .forged .ensures) ∙ c .before .before .before .before .if1 .left)
+    (c .before .before .if2 .left) _ (c .before .size-of .ensures) (c .if3 .left)
 
 follow-requires : tie.Need-follow-requires
 follow-requires c κs = search needs
@@ -50,7 +54,7 @@ returns-4 c =
     let f = c .before .before .before .before .before .before .before in
     let a = f .before .before .args in
     c .follow .ensures
-    ∙ ap (λ (x : Symbol). tookSymbol (a .self) x) (c .before .read-symbol .ensures)
+    ∙ ap (λ (x : Symbol). tookSymbol (a .self) x) (c .before .read-by-mode .ensures)
     ∙ push-symbol (a .self) (a .part .now) (sym (f .forged .ensures) ∙ c .before .before .before .before .before .before .if1 .left)
     (c .before .before .before .before .if2 .left) _ (c .before .before .before .size-of .ensures) (c .before .before .if3 .left)
 
@@ -66,6 +70,6 @@ push-spec =
     size-of-requires
     answer-requires-3
     returns-3
-    read-symbol-requires
+    read-by-mode-requires
     follow-requires
     returns-4)

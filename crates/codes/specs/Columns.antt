@@ -1,0 +1,69 @@
+-- Not to be believed: what the code computes of chips laid in columns of bits, shown to be the
+-- distances of a radio's words in proofs/Words.antt. Once for every radio whose words are eight
+-- turns of one and the same eight with the odd chips inverted.
+use mathlib.Core.Path.{_≡_}
+use mathlib.Core.List.{List}
+use Prim.Native.Nat.{ℕ, zero, suc, _+_, _-_, _*_, _/_, _%_, _^_, _≤_, _<_}
+use lib.Bits.{bitXor}
+use lib.Count.{ones}
+use lib.Dec.{leb, ltb}
+use lib.ListN.{getD}
+use Rattle.codes.specs.declared.Symbol.{Symbol}
+use Rattle.codes.specs.Numbers.{LOST}
+use Rattle.codes.specs.Chips.{pick}
+use Rattle.codes.specs.Symbol.{reads, refused}
+
+-- a number of four columns, a byte each: the first and the third of them beside each other
+abbrev pub firstThird : ℕ → ℕ
+firstThird t = t % 256 + t / 2 ^ 16 % 256 * 256
+
+-- two bits of each byte's four, at every second place, and those of the upper half between them:
+-- four columns of eight bits
+abbrev pub folded : ℕ → ℕ
+folded z = z % 2 ^ 32 + z / 2 ^ 32 * 2
+
+-- a column of eight bits turned left
+unfoldable pub turnedBits : ℕ → ℕ → ℕ
+turnedBits column by =
+    (column % 256 * 2 ^ (by % 8) % 2 ^ 16 % 256 + column % 256 * 2 ^ (by % 8) % 2 ^ 16 / 256) % 256
+
+-- two columns beside each other, each turned
+unfoldable pub turnedPair : ℕ → ℕ → ℕ
+turnedPair pair by = turnedBits pair by + turnedBits (pair / 256) by * 256
+
+-- how many bits of chips differ from those of a word's pair of columns, turned v times
+unfoldable pub parted : ℕ → ℕ → ℕ → ℕ
+parted chips pair v = ones (bitXor chips (turnedPair pair v))
+
+-- the distances of 16 words from those of the even and of the odd chips of eight: the others have
+-- their odd chips inverted
+unfoldable pub apartAt : ℕ → (ℕ → ℕ) → (ℕ → ℕ) → ℕ → ℕ
+apartAt half e o v = pick (ltb v 8) (e v + o v) (e (v - 8) + half - o (v - 8))
+
+-- a word has no more odd chips than that
+abbrev pub Half : ℕ → (ℕ → ℕ) → Type 0
+Half half o = (v : ℕ) → v < 8 → o v ≤ half
+
+-- a word's key: its distance above its number and one
+abbrev pub keyOf : (ℕ → ℕ) → ℕ → ℕ
+keyOf d v = d v * 32 + v + 1
+
+-- sixteen keys
+abbrev pub Keyed : (ℕ → ℕ) → List ℕ → Type 0
+Keyed d keys = (v : ℕ) → v < 16 → getD keys v 0 ≡ keyOf d v
+
+-- the keys of word v, v below 8, and of word v + 8
+abbrev pub lowKey : (ℕ → ℕ) → (ℕ → ℕ) → ℕ → ℕ
+lowKey e o v = (e v + o v) * 32 + v + 1
+
+abbrev pub highKey : ℕ → (ℕ → ℕ) → (ℕ → ℕ) → ℕ → ℕ
+highKey half e o v = (e v + half - o v) * 32 + v + 9
+
+-- the least of s and of the first k values of f
+unfoldable pub least : ℕ → (ℕ → ℕ) → ℕ → ℕ
+least s f zero = s
+least s f (suc k) = pick (ltb (f k) (least s f k)) (f k) (least s f k)
+
+-- word v at a distance, where that is within the limit
+unfoldable pub judged : ℕ → ℕ → ℕ → Symbol
+judged limit v d = pick (leb d limit) (reads v d) (refused LOST)

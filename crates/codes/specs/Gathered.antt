@@ -1,0 +1,71 @@
+-- A symbol's chips gathered as the bits of one number, eight at a time, and its symbol read there.
+-- Not to be believed: that the symbol of the bits is that of the chips is shown in
+-- proofs/Gathering.antt.
+use Prim.Native.Nat.{ℕ, zero, suc, _+_, _-_, _*_, _/_, _%_, _^_}
+use mathlib.Core.List.{List, [], _∷_}
+use lib.ListN.{length, getD, take, drop}
+use lib.Dec.{ltb}
+use Rattle.codes.specs.declared.Symbol.{Symbol}
+use Rattle.codes.specs.Numbers.{BADMODE}
+use Rattle.codes.specs.Chips.{pick, bad}
+use Rattle.codes.specs.Radio.{known, radioOf}
+use Rattle.codes.specs.Symbol.{refused, symbolOf}
+use Rattle.codes.specs.Packed.{from, packed, byteOf}
+
+-- the eights of a symbol: how many, how many chips from the start of one to that of the next, and
+-- by how many bits each is lifted above the one before
+pub record Layout : Type 0 where
+  pub eights : ℕ
+  pub step : ℕ
+  pub lift : ℕ
+
+-- mode 0: fifteen chips are two eights, which both have chip 7
+abbrev pub bitLayout : Layout
+bitLayout = record { eights = 2; step = 7; lift = 1 }
+
+-- mode 1: 32 chips are four eights
+abbrev pub columnLayout : Layout
+columnLayout = record { eights = 4; step = 8; lift = 2 }
+
+-- the layout of a mode's radio, in the order of `radios`
+abbrev pub layoutOf : ℕ → Layout
+layoutOf mode = getD (bitLayout ∷ columnLayout ∷ []) mode bitLayout
+
+-- all bits set, which no gathered chips have
+abbrev pub NOEIGHT : ℕ
+NOEIGHT = 0xFFFFFFFFFFFFFFFF
+
+-- Eight k of a symbol's chips, added to the bits gathered before it; `NOEIGHT` where they are
+-- fewer, or one of its bytes is no chip. A symbol that has no eight k leaves the bits as they are.
+unfoldable pub gathered : ℕ → ℕ → ℕ → List ℕ → ℕ → ℕ → ℕ
+gathered eights step lift part k bits =
+    pick (ltb k eights)
+    (pick (ltb (length part) (k * step + 8)) NOEIGHT
+    (pick (bad (take 8 (drop (k * step) part))) NOEIGHT
+    ((bits + packed (from part (k * step)) 8 * 2 ^ (k * lift) % 2 ^ 64) % 2 ^ 64)))
+    bits
+
+-- at a mode
+unfoldable pub gatheredAt : ℕ → List ℕ → ℕ → ℕ → ℕ
+gatheredAt mode part k bits =
+    pick (known mode) (gathered (layoutOf mode .eights) (layoutOf mode .step) (layoutOf mode .lift) part k bits) NOEIGHT
+
+-- the eight that chip i is read from, the first that has it
+abbrev pub eightOf : Layout → ℕ → ℕ
+eightOf l i = (i - (8 - l .step)) / l .step
+
+-- chip i among the bits: the byte is that of its place in its eight, the bit that of the eight
+unfoldable pub chipIn : Layout → ℕ → ℕ → ℕ
+chipIn l bits i = byteOf bits (i - eightOf l i * l .step) / 2 ^ (eightOf l i * l .lift) % 2
+
+-- the first n values of f
+unfoldable pub listed : (ℕ → ℕ) → ℕ → List ℕ
+listed f zero = []
+listed f (suc n) = f 0 ∷ listed (λ i. f (suc i)) n
+
+-- the symbol of the chips that the bits hold
+unfoldable pub symbolIn : ℕ → ℕ → Symbol
+symbolIn mode bits =
+    pick (known mode)
+    (symbolOf (radioOf mode) (listed (chipIn (layoutOf mode) bits) (radioOf mode .size)))
+    (refused BADMODE)

@@ -1,0 +1,117 @@
+// Mode 1, and any radio whose words are eight turns of word 0 and the same eight with their odd
+// chips inverted. Chips are laid in columns of eight bits: bit m of column c is chip 4m + c. To
+// turn a word right by four chips is to turn each of its columns left by one bit; to invert its odd
+// chips is to invert columns 1 and 3. So words v and v + 8 are as far from the even chips, and in
+// the odd chips one as far as the other is not. No word is kept but word 0, and nothing leaves the
+// loops, so the back end looks at eight words at a time (proofs/Words.antt, proofs/Leasts.antt).
+ghost use mathlib.Core.Path.{_≡_};
+ghost use Prim.Native.Nat.{_≤_, _<_, _^_};
+ghost use lib.ListN.{getD};
+ghost use lib.Count.{ones};
+ghost use Rattle.codes.specs.Gathered.{symbolIn};
+ghost use Rattle.codes.specs.Columns.{firstThird, folded, turnedBits, turnedPair, parted, apartAt, Half, keyOf, Keyed, least};
+
+// Word 0 by columns, a byte a column.
+pub const WORD: u32 = 0x1BE89587;
+
+// The symbol of gathered bits: every second bit of a byte is a chip's, and the mask leaves nothing
+// else. The nearest word has the least key, the lowest number on a tie.
+pub fn read_word(bits: u64) -> crate::Symbol
+    ensures { λ r. ⌜ r ≡ symbolIn 1 bits ⌝ }
+{
+    let t = fold(bits & 0x5555555555555555);
+    let word = WORD as u64;
+    let key = least_key(
+        first_third(t),
+        first_third(t / 256),
+        first_third(word),
+        first_third(word / 256),
+        16,
+    );
+    crate::judge(5, (key - 1) % 16, key / 32)
+}
+
+// The upper half's bits laid between the lower half's: four columns.
+fn fold(z: u64) -> u64
+    ensures { λ r. ⌜ r ≡ folded z ⌝ }
+{
+    z % 0x100000000 + z / 0x100000000 * 2
+}
+
+// The first and the third of four columns beside each other: the even chips, or, of columns moved
+// down by one, the odd.
+fn first_third(t: u64) -> u16
+    ensures { λ r. ⌜ r ≡ firstThird t ⌝ }
+{
+    (t % 256 + t / 0x10000 % 256 * 256) as u16
+}
+
+// The least key of the sixteen words, from the even and the odd chips of the symbol and of word 0.
+// A word has so many odd chips.
+fn least_key(evens: u16, odds: u16, even: u16, odd: u16, half: u16) -> u32
+    requires { ⌜ (half ≤ 16) × Half half (parted odds odd) ⌝ }
+    ensures { λ r. ⌜ r ≡ least 0xFFFF (keyOf (apartAt half (parted evens even) (parted odds odd))) 16 ⌝ }
+{
+    let k = keys(evens, odds, even, odd, half);
+    wide(least_of(&k))
+}
+
+// Keys of the words: the distance above the word's number and one. (Of the number alone the first
+// would be 0, and the back end would leave that word out of its vectors.)
+fn keys(evens: u16, odds: u16, even: u16, odd: u16, half: u16) -> [u16; 16]
+    requires { ⌜ (half ≤ 16) × Half half (parted odds odd) ⌝ }
+    ensures { λ r. ⌜ Keyed (apartAt half (parted evens even) (parted odds odd)) r ⌝ }
+{
+    let mut k = [0u16; 16];
+    let mut r: usize = 0;
+    while r < 8 {
+        let n = (r % 8) as u16;
+        let e = ones(evens ^ turned_pair(even, n));
+        let o = ones(odds ^ turned_pair(odd, n));
+        k[r] = (e + o) * 32 + n + 1;
+        k[r + 8] = (e + half - o) * 32 + n + 9;
+        r += 1;
+    }
+    k
+}
+
+fn least_of(k: &[u16; 16]) -> u16
+    ensures { λ r. ⌜ r ≡ least 0xFFFF (λ v. getD (now (k .entry)) v 0) 16 ⌝ }
+{
+    let mut m: u16 = 0xFFFF;
+    let mut v: usize = 0;
+    while v < 16 {
+        if k[v] < m {
+            m = k[v];
+        }
+        v += 1;
+    }
+    m
+}
+
+// Two columns of a word, turned left by so many bits.
+fn turned_pair(pair: u16, by: u16) -> u16
+    ensures { λ r. ⌜ r ≡ turnedPair pair by ⌝ }
+{
+    turned(pair, by) + turned(pair / 256, by) * 256
+}
+
+// The column in the lower byte, turned.
+fn turned(column: u16, by: u16) -> u16
+    ensures { λ r. ⌜ (r ≡ turnedBits column by) × (r < 2 ^ 8) ⌝ }
+{
+    let x = column % 256 << (by % 8);
+    (x % 256 + x / 256) % 256
+}
+
+fn ones(x: u16) -> u16
+    ensures { λ r. ⌜ (r ≡ ones x) × (r ≤ 16) ⌝ }
+{
+    (u16::count_ones(x) % 32) as u16
+}
+
+fn wide(x: u16) -> u32
+    ensures { λ r. ⌜ r ≡ x ⌝ }
+{
+    x as u32
+}

@@ -1,0 +1,34 @@
+-- `settle` meets its contract: within an octet there is room, and nothing is kept (Steps.antt).
+-- Assumes nothing.
+use mathlib.Core.Path.{sym, _∙_}
+use borrow.Author.Needs.{needs}
+use borrow.Author.Tests.{le-ltb, eqb-false, not-true}
+use Rattle.reader.proofs.Steps.{keep-partial}
+use Rattle.reader.proofs.settle.Statement.{statement}
+use Rattle.reader.proofs.settle.Tie as tie
+
+cast-whole : tie.Need-cast-whole
+cast-whole c = search needs
+
+whole-requires : tie.Need-whole-requires
+whole-requires c κs = search needs
+
+returns : tie.Need-returns
+returns c =
+    let s = c .before .before .before in
+    let n = eqb-false _ 0 (sym (c .before .whole .ensures) ∙ not-true _ (c .if1 .taken)) in
+    (rw (le-ltb (s .args .room) (s .args .next .length) (s .pre .1 n)), keep-partial (s .args .mode) (s .args .next) _ (s .pre .0) n)
+
+with-room-requires : tie.Need-with-room-requires
+with-room-requires c κs = search needs
+
+keep-requires : tie.Need-keep-requires
+keep-requires c κs = search needs
+
+returns-2 : tie.Need-returns-2
+returns-2 c = search needs
+
+pub settle-spec : {M : Type 1} → statement M
+settle-spec =
+    tie.close
+    (tie.spec cast-whole whole-requires returns with-room-requires keep-requires returns-2)

@@ -1,0 +1,20 @@
+-- `read_by_mode` meets its contract: a radio a branch. Assumes nothing.
+use mathlib.Core.Path.{refl}
+use Rattle.codes.proofs.Modes.{second}
+use Rattle.receiver.proofs.read_by_mode.Statement.{statement}
+use Rattle.receiver.proofs.read_by_mode.Tie as tie
+
+read-part-requires : tie.Need-read-part-requires
+read-part-requires c κs = (refl, rw (c .if1 .taken) at (c .before .before .pre .1))
+
+returns : tie.Need-returns
+returns c = rw (c .before .if1 .taken) (c .read-part .ensures)
+
+read-part-requires-2 : tie.Need-read-part-requires-2
+read-part-requires-2 c κs = (refl, rw (second _ (c .before .before .pre .0) (c .if1 .left)) at (c .before .before .pre .1))
+
+returns-2 : tie.Need-returns-2
+returns-2 c = rw (second _ (c .before .before .before .pre .0) (c .before .if1 .left)) (c .read-part2 .ensures)
+
+pub read-by-mode-spec : {M : Type 1} → statement M
+read-by-mode-spec = tie.close (tie.spec read-part-requires returns read-part-requires-2 returns-2)
