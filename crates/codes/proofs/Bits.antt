@@ -1,23 +1,21 @@
 -- Mode 0's fifteen chips among bits: what the code counts is their distance from the word for 0,
 -- and what is left of fifteen that from the word for 1. Assumes nothing.
 use mathlib.Core.Path.{_≡_, refl, sym, ap, _∙_}
-use mathlib.Core.Bool.{Bool, true, false}
-use mathlib.Core.List.{List}
+use mathlib.Core.Bool.{true, false}
 use Prim.Native.Nat.{ℕ, zero, suc, _+_, _-_, _*_, _/_, _%_, _^_, _≤_, _<_}
 use native.Mathlib.Omega.{arith}
 use lib.Bits.{bitAnd, bitXor, and-zero-r, xor-zero-r}
 use lib.Dec.{eqb, ltb}
-use lib.ListN.{length, getD}
+use lib.ListN.{getD}
 use borrow.Author.Tests.{eqb-true, eqb-false, ltb-true, ltb-false}
-use Rattle.codes.specs.Chips.{pick, differ, distance, bad}
+use Rattle.codes.specs.Chips.{pick, differ, distance}
 use Rattle.codes.specs.Radio.{word, bpsk, bpskWords}
-use Rattle.codes.specs.Symbol.{symbolOf}
 use Rattle.codes.specs.Packed.{packed, byteOf, digitSum}
 use Rattle.codes.specs.Gathered.{bitLayout, chipIn, listed, symbolIn}
 use Rattle.codes.specs.Columns.{judged}
 use Rattle.codes.proofs.Tests.{by-test, both-true, every, each}
 use Rattle.codes.proofs.Chips.{distance-both, differ-le, xor-differ, chip-at}
-use Rattle.codes.proofs.Packed.{Bytes, packed-cong, packed-both, packed-lt, xor-packed, mask-digits, digit-lt, eight-sum}
+use Rattle.codes.proofs.Packed.{packed-cong, packed-both, packed-lt, xor-packed, mask-digits, digit-lt, eight-sum}
 use Rattle.codes.proofs.Gathering.{listed-long, listed-at}
 use Rattle.codes.proofs.Laid.{apart, apart-cong, distance-apart}
 use Rattle.codes.proofs.Nearest.{judged-symbol, chip-in, chips-in}

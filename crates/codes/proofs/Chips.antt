@@ -5,10 +5,10 @@ use mathlib.Core.List.{List, [], _∷_, _++_}
 use Prim.Native.Nat.{ℕ, zero, suc, _+_, _≤_, _<_}
 use native.Mathlib.Omega.{arith}
 use lib.ListN.{length, getD, take, drop, length-take}
-use lib.Seq.{take-suc, length-take-le, take-all, getD-take, getD-drop}
+use lib.Seq.{take-suc, getD-take, getD-drop}
 use lib.Bits.{bitXor}
 use lib.Dec.{eqb, ltb}
-use borrow.Author.Tests.{eqb-true, eqb-false, eq-eqb, ne-eqb, ltb-false, ltb-true, lt-ltb, le-ltb}
+use borrow.Author.Tests.{eqb-true, eqb-false, eq-eqb, ne-eqb, ltb-false, le-ltb}
 use Rattle.codes.specs.Chips.{pick, differ, distance, bad}
 use Rattle.codes.specs.Packed.{from}
 use Rattle.codes.proofs.Tests.{by-test, not-both}
@@ -84,13 +84,7 @@ bad-suc xs k h =
     rw (take-suc xs k 0 h, bad-append)
     (ap (λ (t : Bool). pick (bad (take k xs)) true t) (by-test (ltb 1 (getD xs k 0)) (λ a. rw a) (λ a. rw a)))
 
--- a part of chips is of chips
-pub bad-take : (n : ℕ) (xs : List ℕ) → bad xs ≡ false → bad (take n xs) ≡ false
-unfolding bad
-bad-take zero xs b = refl
-bad-take (suc n) [] b = refl
-bad-take (suc n) (x ∷ xs) b = by-test (ltb 1 x) (λ a. not-both true refl (rw a at b)) (λ a. rw a (bad-take n xs (rw a at b)))
-
+-- what is left of chips is of chips
 pub bad-drop : (n : ℕ) (xs : List ℕ) → bad xs ≡ false → bad (drop n xs) ≡ false
 unfolding bad
 bad-drop zero xs b = b

@@ -1,7 +1,7 @@
 -- What a loop over a symbol's eights gathers: while each eight passes its test, the bits hold the
 -- chips so far; where one does not, a byte of the symbol is no chip; and after the last one the
 -- symbol of the bits is that of the chips. The reader's loop and the receiver's stand on it alike.
--- Over any layout that has a place of its own for each chip. Assumes nothing.
+-- Over any layout that has a place for each chip. Assumes nothing.
 use mathlib.Core.Path.{_≡_, refl, sym, ap, _∙_}
 use mathlib.Core.Bool.{true, false}
 use mathlib.Core.List.{List}
@@ -10,18 +10,18 @@ use native.Mathlib.Nat.{zero-mul, mul-le-mul-right, eq-or-lt-of-le}
 use native.Mathlib.Numerals.{add-one}
 use native.Mathlib.Omega.{arith}
 use mathlib.Core.Logic.{_⊎_, inl, inr}
-use lib.ListN.{length, getD, take, drop, length-take, length-drop}
+use lib.ListN.{length, getD, take, drop, length-take}
 use lib.Seq.{ext-getD}
 use lib.Dec.{ltb}
 use borrow.Author.Tests.{lt-ltb, le-ltb, ltb-true, ltb-false}
 use Rattle.codes.specs.Chips.{pick, bad}
 use Rattle.codes.specs.Radio.{known, radioOf}
 use Rattle.codes.specs.Symbol.{symbolOf}
-use Rattle.codes.specs.Packed.{from, packed, byteOf}
+use Rattle.codes.specs.Packed.{from, packed}
 use Rattle.codes.specs.Gathered.{Layout, bitLayout, columnLayout, layoutOf, NOEIGHT, gathered, gatheredAt, eightOf, chipIn, listed, symbolIn}
 use Rattle.codes.proofs.Tests.{by-test, not-both, upto}
 use Rattle.codes.proofs.Chips.{chip-at, chips-good, window-chip}
-use Rattle.codes.proofs.Packed.{Bytes, packed-lt, packed-add, packed-digit}
+use Rattle.codes.proofs.Packed.{packed-lt, packed-add, packed-digit}
 
 pub listed-long : (f : ℕ → ℕ) (n : ℕ) → length (listed f n) ≡ n
 unfolding listed

@@ -4,7 +4,7 @@ use mathlib.Core.Path.{_≡_, refl, sym, _∙_}
 use mathlib.Core.Bool.{Bool, true, false}
 use mathlib.Core.List.{List}
 use mathlib.Core.Logic.{_⊎_, inl, inr}
-use Prim.Native.Nat.{ℕ, zero, suc, _+_, _-_, _*_, _/_, _%_, _≤_, _<_}
+use Prim.Native.Nat.{ℕ, zero, suc, _+_, _-_, _/_, _%_, _≤_, _<_}
 use native.Mathlib.Nat.{eq-or-lt-of-le}
 use native.Mathlib.Numerals.{add-one}
 use native.Mathlib.Omega.{arith}
@@ -65,10 +65,7 @@ module _ (d : ℕ → ℕ) (small : (v : ℕ) → v < 16 → d v ≤ 32) (m : �
   pub key-pos : 1 ≤ m
   key-pos = let t = some-word in omega (arith, t .2)
 
-  -- its number, which is a word's
-  pub key-word : (m - 1) % 16 < 16
-  key-word = omega arith
-
+  -- its number
   number-is : some-word .0 ≡ (m - 1) % 16
   number-is = let t = some-word in omega (arith, t .1, t .2)
 

@@ -7,7 +7,7 @@ use native.Mathlib.Omega.{arith}
 use borrow.Author.Tests.{le-ltb, ltb-true}
 use Rattle.codes.specs.Chips.{pick}
 use Rattle.codes.specs.Radio.{Radio, known, radioOf, bpsk, oqpsk}
-use Rattle.codes.specs.Lent.{sizeAt}
+use Rattle.codes.specs.Sizes.{sizeAt}
 use Rattle.codes.proofs.Tests.{by-test}
 
 pub each-row : (P : Radio → Type 0) → P bpsk → P oqpsk → (mode : ℕ) → P (radioOf mode)

@@ -81,7 +81,7 @@ digits-of n (suc k) =
     let e : suc k * 8 ≡ 8 + k * 8 = omega arith in
     rw e (mod-pow-add n 8 (k * 8) ∙ ap (λ (x : ℕ). byteOf n k * 2 ^ (k * 8) + x) (digits-of n k))
 
-pub eight-digits : (n : ℕ) → n < 2 ^ 64 → n ≡ packed (byteOf n) 8
+eight-digits : (n : ℕ) → n < 2 ^ 64 → n ≡ packed (byteOf n) 8
 eight-digits n h = let e : n % 2 ^ (8 * 8) ≡ n = omega arith in sym e ∙ digits-of n 8
 
 -- a multiple added digit by digit
@@ -123,7 +123,7 @@ pub xor-packed : (f g : ℕ → ℕ) (k : ℕ) → Bytes f k → Bytes g k → b
 xor-packed = op-packed bitXor xor-block refl
 
 -- and so does a mask
-pub mask-packed : (f m : ℕ → ℕ) (k : ℕ) → Bytes f k → Bytes m k → bitAnd (packed f k) (packed m k) ≡ packed (λ i. bitAnd (f i) (m i)) k
+mask-packed : (f m : ℕ → ℕ) (k : ℕ) → Bytes f k → Bytes m k → bitAnd (packed f k) (packed m k) ≡ packed (λ i. bitAnd (f i) (m i)) k
 mask-packed = op-packed bitAnd and-block refl
 
 -- of a number's own digits

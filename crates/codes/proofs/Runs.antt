@@ -79,7 +79,7 @@ pub made-turn : (s t : List ℕ) (i x : ℕ) → length s ≡ 128 → i < 128 �
 made-turn s t i x l h e m = rw e (copy-turn (replicate 128 0) 0 s t i i (omega arith) (omega arith) (omega arith) m)
 
 -- k chips from a on are those of a list: one test of each
-pub chips-by : (f : ℕ → ℕ) (xs : List ℕ) (a k : ℕ) → every (λ j. eqb (f (j + a)) (getD xs (j + a) 0)) k ≡ true
+chips-by : (f : ℕ → ℕ) (xs : List ℕ) (a k : ℕ) → every (λ j. eqb (f (j + a)) (getD xs (j + a) 0)) k ≡ true
     → (i : ℕ) → a ≤ i → i < a + k → f i ≡ getD xs i 0
 chips-by f xs a k t i l h =
     let e : i - a + a ≡ i = omega arith in

@@ -1,13 +1,12 @@
 -- Mode 1's 32 chips among bits: the code's four columns are the chips, and the word of the least
 -- key is the symbol. Assumes nothing.
 use mathlib.Core.Path.{_≡_, refl, sym, ap, _∙_}
-use mathlib.Core.Bool.{Bool, true, false}
+use mathlib.Core.Bool.{true}
 use mathlib.Core.List.{List}
-use Prim.Native.Nat.{ℕ, zero, suc, _+_, _-_, _*_, _/_, _%_, _^_, _≤_, _<_}
+use Prim.Native.Nat.{ℕ, _+_, _-_, _*_, _/_, _%_, _^_, _≤_, _<_}
 use native.Mathlib.Omega.{arith}
 use lib.Bits.{bitAnd}
 use lib.Dec.{eqb}
-use lib.ListN.{length}
 use lib.Pow.{high, low}
 use borrow.Author.Tests.{eqb-true}
 use Rattle.codes.specs.Chips.{distance}
@@ -20,7 +19,7 @@ use Rattle.codes.proofs.Packed.{packed-cong, mask-digits, digit-lt}
 use Rattle.codes.proofs.Gathering.{listed-long, listed-at}
 use Rattle.codes.proofs.Laid.{laid, laid-lt, laid-cong, Chips}
 use Rattle.codes.proofs.Nearest.{judged-symbol, chip-in, chips-in}
-use Rattle.codes.proofs.Leasts.{key-word, key-apart, key-nearest}
+use Rattle.codes.proofs.Leasts.{key-apart, key-nearest}
 use Rattle.codes.proofs.Words.{part, evenAt, oddAt, columned-oqpsk, apart-is, apart-le}
 use Rattle.codes.proofs.Facts.{sound-oqpsk}
 

@@ -2,10 +2,10 @@
 -- eight are turns of word 0's columns and the upper eight the same with the odd chips inverted, and
 -- the distances of all sixteen follow from it. Once over the radio, its columns, the turn and the
 -- half; another radio of the family is one test more. Assumes nothing.
-use mathlib.Core.Path.{_≡_, refl, sym, _∙_}
+use mathlib.Core.Path.{_≡_, refl, _∙_}
 use mathlib.Core.Bool.{Bool, true, false}
 use mathlib.Core.List.{List}
-use Prim.Native.Nat.{ℕ, zero, suc, _+_, _-_, _*_, _/_, _%_, _^_, _≤_, _<_}
+use Prim.Native.Nat.{ℕ, _+_, _-_, _*_, _/_, _%_, _^_, _≤_, _<_}
 use native.Mathlib.Omega.{arith}
 use lib.Bits.{bitXor, xor-lt}
 use lib.Count.{ones, ones-le}
@@ -88,8 +88,8 @@ apart-is r S n even odd p q C xs b long e o ee eo v h =
     let u = rw m at (upper-apart r S n even odd _ _ C xs b long (v - 8) (omega arith)) in
     rw t (omega (arith, u))))
 
--- the test of a radio's words, and what it says: chip m of an upper word against a lower, and all of
--- word v and of word v + 8
+-- the test of a radio's words, and what it says: chip m of an upper word against a lower, and all
+-- of words v and v + 8
 unfoldable chipTest : (ℕ → ℕ) → (ℕ → ℕ) → List ℕ → List ℕ → ℕ → Bool
 chipTest even odd upper lower m =
     pick (eqb (part even upper m) (part even lower m)) (eqb (part odd upper m) (1 - part odd lower m)) false

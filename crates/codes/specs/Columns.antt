@@ -17,8 +17,8 @@ use Rattle.codes.specs.Symbol.{reads, refused}
 abbrev pub firstThird : ℕ → ℕ
 firstThird t = t % 256 + t / 2 ^ 16 % 256 * 256
 
--- two bits of each byte's four, at every second place, and those of the upper half between them:
--- four columns of eight bits
+-- four bits of each byte, at every second place: those of the upper four bytes laid between those
+-- of the lower four make four columns of eight bits
 abbrev pub folded : ℕ → ℕ
 folded z = z % 2 ^ 32 + z / 2 ^ 32 * 2
 

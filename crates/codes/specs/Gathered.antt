@@ -1,6 +1,5 @@
--- A symbol's chips gathered as the bits of one number, eight at a time, and its symbol read there.
--- Not to be believed: that the symbol of the bits is that of the chips is shown in
--- proofs/Gathering.antt.
+-- Not to be believed: a symbol's chips gathered as the bits of one number, eight at a time, and its
+-- symbol read there, shown to be that of the chips in proofs/Gathering.antt.
 use Prim.Native.Nat.{ℕ, zero, suc, _+_, _-_, _*_, _/_, _%_, _^_}
 use mathlib.Core.List.{List, [], _∷_}
 use lib.ListN.{length, getD, take, drop}
@@ -45,7 +44,7 @@ gathered eights step lift part k bits =
     ((bits + packed (from part (k * step)) 8 * 2 ^ (k * lift) % 2 ^ 64) % 2 ^ 64)))
     bits
 
--- at a mode
+-- at a mode; `NOEIGHT` where it has no radio
 unfoldable pub gatheredAt : ℕ → List ℕ → ℕ → ℕ → ℕ
 gatheredAt mode part k bits =
     pick (known mode) (gathered (layoutOf mode .eights) (layoutOf mode .step) (layoutOf mode .lift) part k bits) NOEIGHT

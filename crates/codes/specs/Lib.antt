@@ -6,7 +6,7 @@ pub mod Numbers
 pub mod Chips
 pub mod Radio
 pub mod Symbol
-pub mod Lent
+pub mod Sizes
 pub mod Packed
 pub mod Gathered
 pub mod Columns

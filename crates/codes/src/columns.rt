@@ -1,9 +1,10 @@
 // Mode 1, and any radio whose words are eight turns of word 0 and the same eight with their odd
 // chips inverted. Chips are laid in columns of eight bits: bit m of column c is chip 4m + c. To
 // turn a word right by four chips is to turn each of its columns left by one bit; to invert its odd
-// chips is to invert columns 1 and 3. So words v and v + 8 are as far from the even chips, and in
-// the odd chips one as far as the other is not. No word is kept but word 0, and nothing leaves the
-// loops, so the back end looks at eight words at a time (proofs/Words.antt, proofs/Leasts.antt).
+// chips is to invert columns 1 and 3. So words v and v + 8 differ from a symbol in as many even
+// chips, and together in all odd ones: eight pairs of counts give sixteen distances. No word is
+// kept but word 0, and nothing leaves the loops, so the back end looks at eight words at a time
+// (proofs/Words.antt, proofs/Leasts.antt).
 ghost use mathlib.Core.Path.{_≡_};
 ghost use Prim.Native.Nat.{_≤_, _<_, _^_};
 ghost use lib.ListN.{getD};
@@ -46,8 +47,8 @@ fn first_third(t: u64) -> u16
     (t % 256 + t / 0x10000 % 256 * 256) as u16
 }
 
-// The least key of the sixteen words, from the even and the odd chips of the symbol and of word 0.
-// A word has so many odd chips.
+// The least key of the sixteen words, from the even and the odd chips of the symbol and of word 0;
+// `half` is how many odd chips a word has.
 fn least_key(evens: u16, odds: u16, even: u16, odd: u16, half: u16) -> u32
     requires { ⌜ (half ≤ 16) × Half half (parted odds odd) ⌝ }
     ensures { λ r. ⌜ r ≡ least 0xFFFF (keyOf (apartAt half (parted evens even) (parted odds odd))) 16 ⌝ }

@@ -9,7 +9,7 @@ ghost use mathlib.Core.Path.{_≡_};
 ghost use Prim.Native.Nat.{_+_, _≤_};
 ghost use lib.ListN.{length};
 ghost use Rattle.codes.specs.Symbol.{refused};
-ghost use Rattle.codes.specs.Lent.{sizeAt, limitAt};
+ghost use Rattle.codes.specs.Sizes.{sizeAt, limitAt};
 ghost use Rattle.codes.specs.Packed.{from, packed};
 ghost use Rattle.codes.specs.Gathered.{gathered, gatheredAt, symbolIn};
 ghost use Rattle.codes.specs.Columns.{judged};
@@ -93,9 +93,9 @@ pub fn limit_of(mode: u32) -> u32
 }
 
 // Tests eight k of a symbol's chips, and adds it to the bits gathered before it; `NOEIGHT` where it
-// runs out of chips or one of its bytes is no chip. A mode 0 symbol is two eights that both have
-// chip 7; an eight that a symbol doesn't have leaves the bits as they are, so that a loop over all
-// four serves every mode, and has a constant length.
+// runs out of chips, one of its bytes is no chip, or the mode has no radio. A mode 0 symbol is two
+// eights that both have chip 7; an eight that a symbol doesn't have leaves the bits as they are, so
+// that a loop over all four serves every mode, and has a constant length.
 pub fn gather(mode: u32, part: &[u8], k: usize, bits: u64) -> u64
     ensures { λ r. ⌜ r ≡ gatheredAt mode (now (part .entry)) k bits ⌝ }
 {

@@ -14,7 +14,7 @@ use borrow.Author.Tests.{eqb-false, ne-eqb, ltb-true, ltb-false, leb-true, le-le
 use Rattle.codes.specs.Numbers.{DONE, RUNOUT, ENDED, NOTENDED, MORE, FORGED}
 use Rattle.codes.specs.Radio.{known, radioOf}
 use Rattle.codes.specs.Symbol.{symbolOf}
-use Rattle.codes.specs.Lent.{limitAt}
+use Rattle.codes.specs.Sizes.{limitAt}
 use Rattle.codes.proofs.Tests.{by-test, not-both}
 use Rattle.frame.specs.Frame.{perOctet, symbols}
 use Rattle.frame.proofs.Count.{symbols-long}

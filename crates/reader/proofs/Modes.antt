@@ -11,7 +11,7 @@ use Rattle.codes.specs.Numbers.{DONE, NOCHIP}
 use Rattle.codes.specs.Chips.{pick, bad}
 use Rattle.codes.specs.Radio.{known, radioOf}
 use Rattle.codes.specs.Symbol.{symbolOf}
-use Rattle.codes.specs.Lent.{sizeAt}
+use Rattle.codes.specs.Sizes.{sizeAt}
 use Rattle.codes.specs.declared.Symbol.{Symbol}
 use Rattle.codes.proofs.Modes.{each-row, size-known}
 use Rattle.codes.proofs.Facts.{sound}

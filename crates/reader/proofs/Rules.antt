@@ -32,15 +32,36 @@ ends-is per k s m e h = eq-eqb (suc s) (suc k * per) (omega arith)
 pub ends-not : (per k s m : ℕ) → m ≡ suc k * per → (s + 1 ≡ m → ⊥) → ends per k s ≡ false
 ends-not per k s m e h = ne-eqb (suc s) (suc k * per) (λ x. h (omega arith))
 
+-- the preamble's rule is the first: where it refuses, so do the rules, and else they are those of a
+-- raw symbol of 0
+module _ (per s raw : ℕ) where
+  pub preamble-rules : (preambled per s raw ≡ MORE → ⊥) → (start n : ℕ) → preambled per s raw ≡ rules per 127 s raw start n
+  unfolding rules
+  preamble-rules p start n =
+      by-test (both (ltb s (4 * per)) (not (eqb raw 0))) (λ t. rw t) (λ t. absurd (p (rw t)))
+
+  pub preamble-fair : preambled per s raw ≡ DONE → ⊥
+  preamble-fair e =
+      by-test (both (ltb s (4 * per)) (not (eqb raw 0)))
+      (λ t. let f : PREAMBLE ≡ DONE = rw t at e in omega (arith, f))
+      (λ t. let f : MORE ≡ DONE = rw t at e in omega (arith, f))
+
+  pub rules-passed : preambled per s raw ≡ MORE → (start n : ℕ) → rules per 127 s 0 start n ≡ rules per 127 s raw start n
+  unfolding rules
+  rules-passed p start n =
+      by-test (both (ltb s (4 * per)) (not (eqb raw 0)))
+      (λ t. let f : PREAMBLE ≡ MORE = rw t at p in absurd (omega (arith, f)))
+      (λ t. rw (t, neither (ltb s (4 * per)) false (λ _. refl)))
+
 -- a symbol that isn't an octet's last ends no octet
 module _ (per s : ℕ) (i : (s + 1) % per ≡ 0 → ⊥) where
   ends-none : (k : ℕ) → ends per k s ≡ false
   ends-none k = ends-not per k s (suc k * per) refl (λ e. i (rw e (mul-mod-left (suc k) per)))
 
   -- so only the preamble's rule speaks of it, and it brings no length
-  pub inside-rules : (raw start n : ℕ) → preambled per s raw ≡ rules per 127 s raw start n
+  pub inside-rules : (raw start n : ℕ) → preambled per s raw ≡ MORE → MORE ≡ rules per 127 s raw start n
   unfolding rules
-  inside-rules raw start n = rw (ends-none 4, ends-none 5, ends-none (5 + n))
+  inside-rules raw start n p = sym p ∙ rw (ends-none 4, ends-none 5, ends-none (5 + n))
 
   pub inside-length : (n octet : ℕ) → n ≡ lengthAfter per s n octet
   inside-length n octet = rw (ends-none 5)

@@ -1,5 +1,5 @@
 -- The ways of the functions that take one symbol, over plain values. Assumes nothing.
-use mathlib.Core.Path.{_≡_, sym, ap, _∙_}
+use mathlib.Core.Path.{_≡_, refl, sym, ap, _∙_}
 use mathlib.Core.Bool.{true, false}
 use mathlib.Core.List.{List}
 use mathlib.Core.Logic.{_⊎_, ⊎-elim}
@@ -17,8 +17,8 @@ use Rattle.codes.proofs.Modes.{each-row}
 use Rattle.frame.specs.Frame.{perOctet}
 use Rattle.reader.specs.declared.Hand.{Hand}
 use Rattle.reader.specs.Order.{rules}
-use Rattle.reader.proofs.Rules.{inside-length}
-use Rattle.reader.specs.Taking.{stopped, rawFrom, shifted, lengthAfter, moved, onward, advanced, followed, Inside, keptIn, keptAt}
+use Rattle.reader.proofs.Rules.{inside-length, preamble-rules, preamble-fair}
+use Rattle.reader.specs.Taking.{stopped, rawFrom, shifted, lengthAfter, preambled, moved, onward, advanced, followed, Roomy, keptIn, keptAt}
 
 -- a raw symbol is below 16
 pub raw-few : (mode last v : ℕ) → rawFrom (radioOf mode) last v < 16
@@ -49,6 +49,15 @@ module _ (mode : ℕ) (h : Hand) (x : Symbol) where
     unfolding followed advanced
     follow-on d per raw octet n number ep er eo en ex = rw (k, eq-eqb (x .number) DONE d, ex, en, eo, er, ep)
 
+    -- 7, whatever the other rules say
+    pub follow-preamble : x .number ≡ DONE → (per raw first : ℕ) → per ≡ perOctet (radioOf mode) → raw ≡ rawFrom (radioOf mode) (h .last) (x .value)
+        → first ≡ preambled per (h .taken) raw → (first ≡ MORE → ⊥) → stopped first h ≡ followed mode h x
+    follow-preamble d per raw first ep er ef n =
+        let octet = shifted (radioOf mode) (h .octet) raw in
+        let long = lengthAfter per (h .taken) (h .length) octet in
+        sym (stops first (moved h first long (x .distance) (x .value) octet) (stopped first h) n (λ z. preamble-fair per (h .taken) raw (sym ef ∙ z)))
+        ∙ follow-on d per raw octet long first ep er refl refl (ef ∙ preamble-rules per (h .taken) raw (λ z. n (ef ∙ z)) octet long)
+
 -- Within an octet a symbol brings no length, so what there was room for there still is.
 module _ (mode : ℕ) (room : ℕ) (h : Hand) (fits : h .length ≤ room) where
   one-more : (r : Radio) → ((t : ℕ) → ((t + 1) % 2 ^ 32 % perOctet r ≡ 0 → ⊥) → (t + 1) % perOctet r ≡ 0 → ⊥) → (x octet d v : ℕ)
@@ -61,9 +70,9 @@ module _ (mode : ℕ) (room : ℕ) (h : Hand) (fits : h .length ≤ room) where
       (λ u. rw u (λ n. rw (← inside-length (perOctet r) (h .taken) (p (h .taken) n) (h .length) octet) fits))
       (λ u. rw u (λ n. fits))))
 
-  pub followed-inside : (x : Symbol) → Inside mode room (followed mode h x)
+  pub followed-roomy : (x : Symbol) → Roomy mode room (followed mode h x)
   unfolding followed advanced
-  followed-inside x =
+  followed-roomy x =
       by-test (known mode)
       (λ k. rw k (by-test (eqb (x .number) DONE)
       (λ d. rw d (one-more r wraps number octet (x .distance) (x .value)))

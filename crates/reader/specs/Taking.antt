@@ -82,8 +82,8 @@ abbrev pub roomed : ℕ → Hand → Hand → Hand
 roomed room h next = pick (ltb room (next .length)) (stopped NOROOM h) next
 
 -- within an octet, there is room for what n says
-abbrev pub Inside : ℕ → ℕ → Hand → Type 0
-Inside mode room h = (h .taken % perOctet (radioOf mode) ≡ 0 → ⊥) → h .length ≤ room
+abbrev pub Roomy : ℕ → ℕ → Hand → Type 0
+Roomy mode room h = (h .taken % perOctet (radioOf mode) ≡ 0 → ⊥) → h .length ≤ room
 
 -- the octets of the report, with the one in hand where it is whole and one of them
 abbrev pub keptIn : ℕ → Hand → List ℕ → List ℕ

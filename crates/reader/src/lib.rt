@@ -14,7 +14,7 @@ ghost use Rattle.frame.specs.Frame.{perOctet};
 ghost use Rattle.reader.specs.Order.{refused, rules, reading};
 ghost use Rattle.reader.specs.Read.{told, readOf};
 ghost use Rattle.reader.specs.Taking.{begun, stopped, rawFrom, shifted, lengthAfter, preambled, moved, onward, followed};
-ghost use Rattle.reader.specs.Taking.{roomed, Inside, storedIn, keptAt, toldBy, Tells};
+ghost use Rattle.reader.specs.Taking.{roomed, Roomy, storedIn, keptAt, toldBy, Tells};
 
 // What the reader gives back: 0, the number of symbols in the frame, the report's length and the
 // number of chips repaired; or a refusal, the number of the symbol where it stands, 0 and 0.
@@ -75,7 +75,7 @@ fn scan(mode: u32, chips: &[u8], room: usize, octets: &mut [u8; 127]) -> Hand
             }
             k += 1;
         }
-        hand = settle(mode, room, hand, take(mode, hand, bits), octets);
+        hand = settle(mode, room, hand, take_symbol(mode, hand, bits), octets);
         if hand.number != codes::MORE {
             break 'symbols;
         }
@@ -113,7 +113,7 @@ fn stop(number: u32, hand: Hand) -> Hand
 }
 
 // The symbol that gathered bits say, taken. Each mode's way is made by itself, of constants.
-fn take(mode: u32, hand: Hand, bits: u64) -> Hand
+fn take_symbol(mode: u32, hand: Hand, bits: u64) -> Hand
     requires { ⌜ known mode ≡ true ⌝ }
     ensures { λ r. ⌜ r ≡ followed mode hand (symbolIn mode bits) ⌝ }
 {
@@ -139,12 +139,15 @@ pub fn follow(mode: u32, hand: Hand, symbol: codes::Symbol) -> Hand
     }
     let raw = raw_of(mode, hand.last, symbol.value);
     let octet = shift(mode, hand.octet, raw);
+    let first = preamble_rule(per, hand.taken, raw);
+    if first != codes::MORE {
+        return stop(first, hand);
+    }
     if !whole(mode, hand.taken as usize + 1) {
-        let number = inside(per, hand.taken, raw);
-        return advance(hand, number, hand.length, symbol, octet);
+        return advance(hand, codes::MORE, hand.length, symbol, octet);
     }
     let length = length_after(per, hand.taken, hand.length, octet);
-    let number = rule(per, hand.taken, raw, octet, length);
+    let number = octet_rules(per, hand.taken, octet, length);
     advance(hand, number, length, symbol, octet)
 }
 
@@ -223,7 +226,7 @@ fn length_after(per: usize, taken: u32, length: u32, octet: u32) -> u32
 }
 
 // Rule 4, the only one for a symbol that isn't an octet's last: 7, else 13.
-fn inside(per: usize, taken: u32, raw: u32) -> u32
+fn preamble_rule(per: usize, taken: u32, raw: u32) -> u32
     requires { ⌜ per ≤ 8 ⌝ }
     ensures { λ r. ⌜ r ≡ preambled per taken raw ⌝ }
 {
@@ -233,16 +236,13 @@ fn inside(per: usize, taken: u32, raw: u32) -> u32
     codes::MORE
 }
 
-// Rules 4 to 6 with room for every report: 7, 8, 9, then 0 on the last symbol of the frame,
-// else 13.
-fn rule(per: usize, taken: u32, raw: u32, octet: u32, n: u32) -> u32
+// Rules 5 and 6 with room for every report, which are the rules of a raw symbol of 0: 8, 9, then 0
+// on the last symbol of the frame, else 13.
+fn octet_rules(per: usize, taken: u32, octet: u32, n: u32) -> u32
     requires { ⌜ per ≤ 8 ⌝ }
-    ensures { λ r. ⌜ r ≡ rules per 127 taken raw octet n ⌝ }
+    ensures { λ r. ⌜ r ≡ rules per 127 taken 0 octet n ⌝ }
 {
     let s = taken as usize;
-    if s < 4 * per && raw != 0 {
-        return codes::PREAMBLE;
-    }
     if s + 1 == 5 * per && octet != frame::START as u32 {
         return codes::BADSTART;
     }
@@ -258,7 +258,7 @@ fn rule(per: usize, taken: u32, raw: u32, octet: u32, n: u32) -> u32
 // What a whole octet brings: the test of room, and the octet itself. Within an octet n stands as it
 // was and nothing is to be kept, so most symbols pass here with one test.
 fn settle(mode: u32, room: usize, hand: Hand, next: Hand, octets: &mut [u8; 127]) -> Hand
-    requires { ⌜ (known mode ≡ true) × Inside mode room next ⌝ }
+    requires { ⌜ (known mode ≡ true) × Roomy mode room next ⌝ }
     ensures { λ r. ⌜ r ≡ roomed room hand next ⌝ }
     ensures { λ r. ⌜ now (octets .exit) ≡ keptAt mode r (now (octets .entry)) ⌝ }
 {

@@ -13,7 +13,7 @@ use Rattle.codes.specs.Numbers.{DONE, BADMODE, NOROOM, RUNOUT, ENDED, BADPART, 
 use Rattle.codes.specs.Chips.{pick}
 use Rattle.codes.specs.Radio.{known, radioOf}
 use Rattle.codes.specs.Symbol.{symbolOf}
-use Rattle.codes.specs.Lent.{sizeAt, limitAt}
+use Rattle.codes.specs.Sizes.{sizeAt, limitAt}
 use Rattle.codes.specs.declared.Symbol.{Symbol}
 use Rattle.codes.proofs.Tests.{by-test, not-both}
 use Rattle.codes.proofs.Modes.{each-row, size-known}

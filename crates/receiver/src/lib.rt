@@ -1,7 +1,9 @@
 // The stepping receiver: the reader's reading, one symbol at a call. The record goes into each call
 // and comes back from it; it holds up to 127 octets itself. Its fields are numbers, so every bit
-// pattern is a record, and each call says what it makes of it. A symbol is taken by the reader's
-// own functions, so the laws of the reader's loop carry over (proofs/Stepping.antt).
+// pattern is a record, and each call says what it makes of it. A part's chips are gathered in a
+// loop of push's own, under the law of the reader's (`codes`, proofs/Gathering.antt); its symbol is
+// taken by the reader's own functions, so the laws of the reader's loop carry over
+// (proofs/Stepping.antt).
 ghost use mathlib.Core.Path.{_≡_};
 ghost use mathlib.Core.Bool.{true};
 ghost use lib.ListN.{length};

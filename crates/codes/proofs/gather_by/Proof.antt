@@ -1,6 +1,6 @@
 -- `gather_by` meets its contract: each test is the definition's, and the sum is its sum.
 -- Assumes nothing.
-use Prim.Native.Nat.{_+_, _*_}
+use Prim.Native.Nat.{_+_, _*_, _≤_, _<_}
 use native.Mathlib.Omega.{arith}
 use borrow.Author.Tests.{lt-ltb, le-ltb}
 use borrow.Author.Needs.{needs}
@@ -9,32 +9,35 @@ use Rattle.codes.proofs.Packed.{eight-bad, eight-good}
 use Rattle.codes.proofs.Gathering.{steps-le}
 use Rattle.codes.proofs.gather_by.Statement.{statement}
 use Rattle.codes.proofs.gather_by.Tie as tie
+use Rattle.codes.proofs.gather_by.Reads as reads
+use Rattle.codes.proofs.gather_by.Lts as lts
+use Rattle.codes.proofs.pack.Reads as pack-reads
+use Rattle.std.proofs.num.wrapping_add_u64.Reads as wrapping-add-u64-reads
+
+-- an eight of the symbol begins and is lifted by numbers that fit
+stepped : (c : lts.Else1 (pack-reads.Asked, pack-reads.Learnt, wrapping-add-u64-reads.Asked, wrapping-add-u64-reads.Learnt) reads.Pre reads.Post)
+    → (c .before .before .args .k * c .before .before .args .step ≤ 24) × (c .before .before .args .k * c .before .before .args .lift ≤ 24)
+stepped c =
+    let s = c .before .before in
+    let few : s .args .k < 4 = omega (arith, c .if1 .left, s .pre .0) in
+    (steps-le (s .args .k) (s .args .step) few (s .pre .1), steps-le (s .args .k) (s .args .lift) few (s .pre .2))
 
 returns : tie.Need-returns
 unfolding gathered
 returns c = rw (le-ltb _ _ (c .if1 .taken))
 
 mul-if2 : tie.Need-mul-if2
-mul-if2 c =
-    let e = c in
-    let s = e .before .before in
-    omega (arith, steps-le (s .args .k) (s .args .step) (omega (arith, e .if1 .left, s .pre .0)) (s .pre .1))
+mul-if2 c = omega (arith, stepped c .0)
 
 add-if2 : tie.Need-add-if2
-add-if2 c =
-    let e = c in
-    let s = e .before .before in
-    omega (arith, steps-le (s .args .k) (s .args .step) (omega (arith, e .if1 .left, s .pre .0)) (s .pre .1))
+add-if2 c = omega (arith, stepped c .0)
 
 returns-2 : tie.Need-returns-2
 unfolding gathered
 returns-2 c = rw (lt-ltb _ _ (c .before .if1 .left), lt-ltb _ _ (c .if2 .taken))
 
 mul-pack : tie.Need-mul-pack
-mul-pack c =
-    let e = c .before in
-    let s = e .before .before in
-    omega (arith, steps-le (s .args .k) (s .args .step) (omega (arith, e .if1 .left, s .pre .0)) (s .pre .1))
+mul-pack c = omega (arith, stepped (c .before) .0)
 
 pack-requires : tie.Need-pack-requires
 pack-requires c κs = c .if2 .left
@@ -52,16 +55,10 @@ returns-3 c =
     )
 
 mul-wrapping-add-u64 : tie.Need-mul-wrapping-add-u64
-mul-wrapping-add-u64 c =
-    let e = c .before .before .before in
-    let s = e .before .before in
-    omega (arith, steps-le (s .args .k) (s .args .lift) (omega (arith, e .if1 .left, s .pre .0)) (s .pre .2))
+mul-wrapping-add-u64 c = omega (arith, stepped (c .before .before .before) .1)
 
 shl-wrapping-add-u64 : tie.Need-shl-wrapping-add-u64
-shl-wrapping-add-u64 c =
-    let e = c .before .before .before in
-    let s = e .before .before in
-    omega (arith, steps-le (s .args .k) (s .args .lift) (omega (arith, e .if1 .left, s .pre .0)) (s .pre .2))
+shl-wrapping-add-u64 c = omega (arith, stepped (c .before .before .before) .1)
 
 wrapping-add-u64-requires : tie.Need-wrapping-add-u64-requires
 wrapping-add-u64-requires c κs = search needs

@@ -1,12 +1,10 @@
 -- `follow` meets its contract: a law for each of its ways (Steps.antt). Assumes nothing.
-use Prim.Native.Nat.{ℕ, _+_, _%_}
-use mathlib.Core.Path.{_≡_, sym, ap, _∙_}
+use Prim.Native.Nat.{_+_, _%_}
+use mathlib.Core.Path.{_≡_, sym, _∙_}
 use borrow.Author.Tests.{eqb-false, not-true}
-use Rattle.frame.specs.Frame.{perOctet}
-use Rattle.codes.specs.Radio.{radioOf}
 use Rattle.frame.proofs.Modes.{per-sized, per-sizeless, per-few}
-use Rattle.reader.proofs.Rules.{inside-rules, inside-length}
-use Rattle.reader.proofs.Steps.{raw-few, follow-no-radio, follow-refused, follow-on}
+use Rattle.reader.proofs.Rules.{inside-rules, inside-length, rules-passed}
+use Rattle.reader.proofs.Steps.{raw-few, follow-no-radio, follow-refused, follow-on, follow-preamble}
 use borrow.Author.Needs.{needs}
 use Rattle.reader.proofs.follow.Statement.{statement}
 use Rattle.reader.proofs.follow.Tie as tie
@@ -42,6 +40,24 @@ shift-requires c κs = let p = c .before .before .before .before in
       rw (c .raw-of .ensures) (raw-few (a .mode) (a .hand .last) (a .symbol .value)),
     )
 
+preamble-rule-requires : tie.Need-preamble-rule-requires
+preamble-rule-requires c κs = let p = c .before .before .before .before .before in
+    per-few (p .before .args .mode) _ (p .per-octet .ensures)
+
+stop-requires-3 : tie.Need-stop-requires-3
+stop-requires-3 c κs = search needs
+
+returns-3 : tie.Need-returns-3
+returns-3 c =
+    let s = c .before .before .before in
+    let o = s .before .before .before .before in
+    let p = o .before in
+    let a = p .before .args in
+    let k = per-sized (a .mode) _ (p .per-octet .ensures) (o .if1 .left) in
+    c .stop3 .ensures
+    ∙ follow-preamble (a .mode) (a .hand) (a .symbol) (k .0) (s .before .before .if2 .left) _ _ _ (k .1)
+    (s .before .raw-of .ensures) (c .before .before .preamble-rule .ensures) (c .before .if3 .taken)
+
 cast-whole : tie.Need-cast-whole
 cast-whole c = search needs
 
@@ -49,51 +65,51 @@ add-whole : tie.Need-add-whole
 add-whole c = search needs
 
 whole-requires : tie.Need-whole-requires
-whole-requires c κs = let o = c .before .before .before .before .before in
+whole-requires c κs = let o = c .before .before .before .before .before .before .before in
     per-sized (o .before .before .args .mode) _ (o .before .per-octet .ensures) (o .if1 .left) .0
-
-inside-requires : tie.Need-inside-requires
-inside-requires c κs = let p = c .before .before .before .before .before .before .before .before in
-    per-few (p .before .args .mode) _ (p .per-octet .ensures)
 
 advance-requires : tie.Need-advance-requires
 advance-requires c κs = search needs
 
-returns-3 : tie.Need-returns-3
-returns-3 c =
-    let t = c .before .before in
-    let s = t .before .before .before in
+returns-4 : tie.Need-returns-4
+returns-4 c =
+    let t = c .before in
+    let f = t .before .before .before in
+    let s = f .before .before in
     let o = s .before .before .before .before in
     let p = o .before in
     let a = p .before .args in
     let k = per-sized (a .mode) _ (p .per-octet .ensures) (o .if1 .left) in
     let n : (a .hand .taken + 1) % p .per-octet .result ≡ 0 → ⊥ =
-    rw (k .1) (eqb-false _ 0 (sym (t .before .whole .ensures) ∙ not-true _ (t .if3 .taken))) in
+    rw (k .1) (eqb-false _ 0 (sym (t .before .whole .ensures) ∙ not-true _ (t .if4 .taken))) in
     c .advance .ensures
     ∙ follow-on (a .mode) (a .hand) (a .symbol) (k .0) (s .before .before .if2 .left) _ _ _ _ _ (k .1)
-    (s .before .raw-of .ensures) (s .shift .ensures) (inside-length _ _ n _ _) (c .before .inside .ensures ∙ inside-rules _ _ n _ _ _)
+    (s .before .raw-of .ensures) (s .shift .ensures) (inside-length _ _ n _ _)
+    (inside-rules _ _ n _ _ _ (sym (f .before .preamble-rule .ensures) ∙ f .if3 .left))
 
 length-after-requires : tie.Need-length-after-requires
-length-after-requires c κs = let p = c .before .before .before .before .before .before .before .before in
+length-after-requires c κs = let p = c .before .before .before .before .before .before .before .before .before .before in
     per-few (p .before .args .mode) _ (p .per-octet .ensures)
 
-rule-requires : tie.Need-rule-requires
-rule-requires c κs = let p = c .before .before .before .before .before .before .before .before .before in
+octet-rules-requires : tie.Need-octet-rules-requires
+octet-rules-requires c κs = let p = c .before .before .before .before .before .before .before .before .before .before .before in
     per-few (p .before .args .mode) _ (p .per-octet .ensures)
 
 advance-requires-2 : tie.Need-advance-requires-2
 advance-requires-2 c κs = search needs
 
-returns-4 : tie.Need-returns-4
-returns-4 c =
-    let s = c .before .before .before .before .before .before in
+returns-5 : tie.Need-returns-5
+returns-5 c =
+    let f = c .before .before .before .before .before .before in
+    let s = f .before .before in
     let o = s .before .before .before .before in
     let p = o .before in
     let a = p .before .args in
     let k = per-sized (a .mode) _ (p .per-octet .ensures) (o .if1 .left) in
     c .advance2 .ensures
     ∙ follow-on (a .mode) (a .hand) (a .symbol) (k .0) (s .before .before .if2 .left) _ _ _ _ _ (k .1)
-    (s .before .raw-of .ensures) (s .shift .ensures) (c .before .before .length-after .ensures) (c .before .rule .ensures)
+    (s .before .raw-of .ensures) (s .shift .ensures) (c .before .before .length-after .ensures)
+    (c .before .octet-rules .ensures ∙ rules-passed _ _ _ (sym (f .before .preamble-rule .ensures) ∙ f .if3 .left) _ _)
 
 pub follow-spec : {M : Type 1} → statement M
 follow-spec =
@@ -106,13 +122,15 @@ follow-spec =
     returns-2
     raw-of-requires
     shift-requires
+    preamble-rule-requires
+    stop-requires-3
+    returns-3
     cast-whole
     add-whole
     whole-requires
-    inside-requires
     advance-requires
-    returns-3
+    returns-4
     length-after-requires
-    rule-requires
+    octet-rules-requires
     advance-requires-2
-    returns-4)
+    returns-5)

@@ -9,7 +9,7 @@ use Rattle.codes.specs.Numbers.{NOCHIP}
 use Rattle.codes.specs.Radio.{radioOf}
 use Rattle.codes.proofs.Gathering.{Loop, loop-starts, loop-goes-on, loop-stops, loop-ends}
 use Rattle.reader.specs.Taking.{stopped, followed}
-use Rattle.reader.proofs.Steps.{followed-inside}
+use Rattle.reader.proofs.Steps.{followed-roomy}
 use Rattle.reader.proofs.Scanning.{Scanning, Turning}
 use Rattle.reader.proofs.Modes.{size-positive, starts, runs-out, part-long, eights-stop, turns}
 use Rattle.reader.proofs.scan.Statement.{statement}
@@ -20,7 +20,7 @@ use Rattle.codes.proofs.gather.Reads as gather-reads
 use Rattle.codes.proofs.size_of.Reads as size-of-reads
 use Rattle.reader.proofs.begin.Reads as begin-reads
 use Rattle.reader.proofs.stop.Reads as stop-reads
-use Rattle.reader.proofs.take.Reads as take-reads
+use Rattle.reader.proofs.take_symbol.Reads as take-symbol-reads
 use Rattle.reader.proofs.settle.Reads as settle-reads
 
 abbrev Inv-chips : tie.InvT-chips
@@ -47,8 +47,8 @@ Eights =
       gather-reads.Learnt,
       stop-reads.Asked,
       stop-reads.Learnt,
-      take-reads.Asked,
-      take-reads.Learnt,
+      take-symbol-reads.Asked,
+      take-symbol-reads.Learnt,
       settle-reads.Asked,
       settle-reads.Learnt,
     )
@@ -65,8 +65,8 @@ Turn =
       gather-reads.Learnt,
       stop-reads.Asked,
       stop-reads.Learnt,
-      take-reads.Asked,
-      take-reads.Learnt,
+      take-symbol-reads.Asked,
+      take-symbol-reads.Learnt,
       settle-reads.Asked,
       settle-reads.Learnt,
     )
@@ -100,7 +100,7 @@ turn c =
     let e = loop-ends (s .args .mode) (s .pre .0) _ (long-part k) _ _ (c .before .before .before .chips-test .left) (k .chips .inv .1) in
     turns (s .args .mode) (s .pre .0) (s .args .room) (s .args .chips .now) (q .symbols .octets) (k .chips .hand) (q .symbols .at) _
     (q .before .before .size-of .ensures) (rw (k .chips .inv .0) (q .symbols .inv)) (i .symbols-test .taken) _ refl
-    _ (c .before .before .take .ensures ∙ ap (followed (s .args .mode) (k .chips .hand)) e)
+    _ (c .before .before .take-symbol .ensures ∙ ap (followed (s .args .mode) (k .chips .hand)) e)
     _ (c .settle .ensures .0) _ (c .settle .ensures .1)
 
 -- the symbol lies in the buffer
@@ -162,8 +162,8 @@ chips-again c =
           _ (k .chips .inv .1) _ (c .before .gather .ensures) (c .if1 .left),
     )
 
-take-requires : tie.Need-take-requires Inv-chips μ-chips Inv-symbols μ-symbols
-take-requires c κs = c .before .before .before .before .before .before .before .before .pre .0
+take-symbol-requires : tie.Need-take-symbol-requires Inv-chips μ-chips Inv-symbols μ-symbols
+take-symbol-requires c κs = c .before .before .before .before .before .before .before .before .pre .0
 
 settle-requires : tie.Need-settle-requires Inv-chips μ-chips Inv-symbols μ-symbols
 settle-requires c κs =
@@ -171,8 +171,8 @@ settle-requires c κs =
     let s = q .before .before .before .before in
     let k = c .before .before .before in (
       s .pre .0,
-      rw (c .before .take .ensures)
-          (followed-inside (s .args .mode) (s .args .room) (k .chips .hand) (rw (k .chips .inv .0) (q .symbols .inv .sofar .goes .fits)) _),
+      rw (c .before .take-symbol .ensures)
+          (followed-roomy (s .args .mode) (s .args .room) (k .chips .hand) (rw (k .chips .inv .0) (q .symbols .inv .sofar .goes .fits)) _),
     )
 
 add-at : tie.Need-add-at Inv-chips μ-chips Inv-symbols μ-symbols
@@ -232,7 +232,7 @@ scan-spec =
     add-k
     chips-less
     chips-again
-    take-requires
+    take-symbol-requires
     settle-requires
     add-at
     symbols-less

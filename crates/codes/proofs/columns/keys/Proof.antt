@@ -1,11 +1,11 @@
 -- `keys` meets its contract: with each turn two keys more are those of the words, eight apart.
 -- Assumes nothing.
-use Prim.Native.Nat.{ℕ, _+_, _-_, _*_, _≤_, _<_}
-use mathlib.Core.Path.{_≡_, refl, sym, _∙_}
+use Prim.Native.Nat.{ℕ, _+_, _-_, _≤_, _<_}
+use mathlib.Core.Path.{_≡_, refl}
 use native.Mathlib.Omega.{arith}
 use borrow.Author.Needs.{needs}
 use lib.ListN.{getD, length, length-set}
-use Rattle.codes.specs.Columns.{parted, apartAt, lowKey, highKey}
+use Rattle.codes.specs.Columns.{parted, lowKey, highKey}
 use Rattle.codes.proofs.Leasts.{lower-turn, upper-turn}
 use Rattle.codes.proofs.Words.{parted-is, low-is, high-is, keyed}
 use Rattle.codes.proofs.columns.keys.Statement.{statement}

@@ -1,14 +1,13 @@
--- `inside` meets its contract: its test is the definition's. Assumes nothing.
+-- `preamble_rule` meets its contract: its test is the definition's. Assumes nothing.
 use Prim.Native.Nat.{_*_}
 use mathlib.Core.Bool.{not}
 use mathlib.Core.Logic.{⊎-elim}
 use lib.Dec.{eqb, ltb}
 use borrow.Author.Tests.{lt-ltb, le-ltb}
-use Rattle.codes.proofs.Tests.{not-both}
 use Rattle.reader.proofs.Rules.{neither}
 use borrow.Author.Needs.{needs}
-use Rattle.reader.proofs.inside.Statement.{statement}
-use Rattle.reader.proofs.inside.Tie as tie
+use Rattle.reader.proofs.preamble_rule.Statement.{statement}
+use Rattle.reader.proofs.preamble_rule.Tie as tie
 
 mul-if1 : tie.Need-mul-if1
 mul-if1 c = search needs
@@ -24,5 +23,5 @@ returns-2 c =
     (λ w. rw (le-ltb (a .taken) (4 * a .per) (w .left)))
     (c .if1 .came)
 
-pub inside-spec : {M : Type 1} → statement M
-inside-spec = tie.close (tie.spec mul-if1 returns returns-2)
+pub preamble-rule-spec : {M : Type 1} → statement M
+preamble-rule-spec = tie.close (tie.spec mul-if1 returns returns-2)

@@ -1,10 +1,10 @@
--- `take` meets its contract: a radio a branch. Assumes nothing.
+-- `take_symbol` meets its contract: a radio a branch. Assumes nothing.
 use mathlib.Core.Path.{ap, _∙_}
 use Rattle.codes.proofs.Modes.{second}
 use Rattle.reader.specs.Taking.{followed}
 use borrow.Author.Needs.{needs}
-use Rattle.reader.proofs.take.Statement.{statement}
-use Rattle.reader.proofs.take.Tie as tie
+use Rattle.reader.proofs.take_symbol.Statement.{statement}
+use Rattle.reader.proofs.take_symbol.Tie as tie
 
 matched-requires : tie.Need-matched-requires
 matched-requires c κs = search needs
@@ -26,5 +26,5 @@ returns-2 : tie.Need-returns-2
 returns-2 c =
     rw (second _ (c .before .before .before .pre) (c .before .before .if1 .left)) (c .follow2 .ensures ∙ ap (followed 1 _) (c .before .matched2 .ensures))
 
-pub take-spec : {M : Type 1} → statement M
-take-spec = tie.close (tie.spec matched-requires follow-requires returns matched-requires-2 follow-requires-2 returns-2)
+pub take-symbol-spec : {M : Type 1} → statement M
+take-symbol-spec = tie.close (tie.spec matched-requires follow-requires returns matched-requires-2 follow-requires-2 returns-2)

@@ -1,5 +1,4 @@
--- What is given to whoever reads or writes many symbols: the size of a symbol and the accepted
--- distance.
+-- The size of a symbol and the accepted distance, at a mode.
 use Prim.Native.Nat.{ℕ}
 use Rattle.codes.specs.Chips.{pick}
 use Rattle.codes.specs.Radio.{known, radioOf}
