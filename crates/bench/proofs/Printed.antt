@@ -1,9 +1,9 @@
--- What document 01 says that the bench program prints in two cases ("The bench program"), computed
+-- What the scope says that the bench program prints in two cases ("The bench program"), computed
 -- of the definition. Assumes nothing.
 use mathlib.Core.Path.{_≡_, refl}
 use mathlib.Core.List.{[], _∷_}
 use Rattle.codes.specs.Chips.{distance, bad}
-use Rattle.codes.specs.Radio.{oqpsk, bpskWords, oqpskWord, oqpskWords, turnedWords, turns, turned, oddInverted}
+use Rattle.codes.specs.Radio.{oqpsk, bpskWords, oqpskWord, oqpskWords, lowbandWord, lowbandWords, turnedWords, turns, turned, oddInverted}
 use Rattle.codes.specs.Symbol.{within, first, valued, symbolOf}
 use Rattle.frame.specs.Frame.{digits, raws, encode, symbols, chipsOf, frame}
 use Rattle.reader.specs.Received.{decode, valueOf, octetsFrom}
@@ -11,17 +11,19 @@ use Rattle.reader.specs.Order.{windows, rules, repaired, concluded, taking, rea
 use Rattle.reader.specs.Read.{told, answerAt}
 use Rattle.bench.specs.Lines.{decimalIn, linesOf}
 
--- for no input, `0 4 0 0 0` and `1 4 0 0 0`
+-- for no input, `0 4 0 0 0`, `1 4 0 0 0` and `2 4 0 0 0`
 pub no-input : linesOf [] ≡
     48 ∷ 32 ∷ 52 ∷ 32 ∷ 48 ∷ 32 ∷ 48 ∷ 32 ∷ 48 ∷ 10 ∷
-    49 ∷ 32 ∷ 52 ∷ 32 ∷ 48 ∷ 32 ∷ 48 ∷ 32 ∷ 48 ∷ 10 ∷ []
+    49 ∷ 32 ∷ 52 ∷ 32 ∷ 48 ∷ 32 ∷ 48 ∷ 32 ∷ 48 ∷ 10 ∷
+    50 ∷ 32 ∷ 52 ∷ 32 ∷ 48 ∷ 32 ∷ 48 ∷ 32 ∷ 48 ∷ 10 ∷ []
 unfolding decimalIn told answerAt windows readingFrom reading
 no-input = refl
 
--- for the mode 1 frame with an empty report, `0 6 1 0 0` and `1 0 12 0 0`
+-- for the mode 1 frame with an empty report, `0 6 1 0 0`, `1 0 12 0 0` and `2 6 0 0 0`
 pub empty-report : linesOf (frame oqpsk []) ≡
     48 ∷ 32 ∷ 54 ∷ 32 ∷ 49 ∷ 32 ∷ 48 ∷ 32 ∷ 48 ∷ 10 ∷
-    49 ∷ 32 ∷ 48 ∷ 32 ∷ 49 ∷ 50 ∷ 32 ∷ 48 ∷ 32 ∷ 48 ∷ 10 ∷ []
-unfolding distance bad bpskWords oqpskWord oqpskWords turnedWords turns turned oddInverted within first valued symbolOf
+    49 ∷ 32 ∷ 48 ∷ 32 ∷ 49 ∷ 50 ∷ 32 ∷ 48 ∷ 32 ∷ 48 ∷ 10 ∷
+    50 ∷ 32 ∷ 54 ∷ 32 ∷ 48 ∷ 32 ∷ 48 ∷ 32 ∷ 48 ∷ 10 ∷ []
+unfolding distance bad bpskWords oqpskWord oqpskWords lowbandWord lowbandWords turnedWords turns turned oddInverted within first valued symbolOf
     digits raws encode symbols chipsOf frame decode valueOf octetsFrom windows rules repaired concluded taking readingFrom reading told answerAt decimalIn
 empty-report = refl

@@ -1,4 +1,4 @@
--- What the bench program prints (document 01, "The bench program"), in ASCII.
+-- What the bench program prints (the scope, "The bench program"), in ASCII.
 use Prim.Native.Nat.{ℕ, zero, suc, _+_, _/_, _%_}
 use mathlib.Core.List.{List, [], _∷_, _++_}
 use lib.Dec.{ltb}
@@ -31,6 +31,6 @@ line mode r = entry mode 32 ++ entry (r .number) 32 ++ entry (r .place) 32 ++ en
 abbrev pub lineOf : ℕ → List ℕ → List ℕ
 lineOf mode chips = line mode (told (answerAt mode 127 chips))
 
--- mode 0 and then mode 1
+-- modes 0, 1 and 2, in that order
 abbrev pub linesOf : List ℕ → List ℕ
-linesOf chips = lineOf 0 chips ++ lineOf 1 chips
+linesOf chips = lineOf 0 chips ++ lineOf 1 chips ++ lineOf 2 chips

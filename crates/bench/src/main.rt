@@ -1,10 +1,11 @@
 // The bench program: reads a raw capture from standard input, at most its first 15,960 bytes, tries
-// mode 0 and then mode 1, each with a report buffer of 127 bytes, and prints a line for each: mode,
-// number, place, n, count. The text of both lines is made whole and written once: `lines` promises
-// every byte of it (specs/Lines.antt), and `main` only reads and writes. The proofs go through
-// because `io::decimal` promises a number's digits, `bytes::copy` a copy and the reader its
-// reading, because a number of 32 bits has at most ten digits (`few-digits`), so that 110 bytes are
-// room enough, and because each entry stands behind those before it (proofs/Text.antt).
+// modes 0, 1 and 2 in that order, each with a report buffer of 127 bytes, and prints a line for
+// each: mode, number, place, n, count. The text of all lines is made whole and written once:
+// `lines` promises every byte of it (specs/Lines.antt), and `main` only reads and writes. The
+// proofs go through because `io::decimal` promises a number's digits, `bytes::copy` a copy and the
+// reader its reading, because a number of 32 bits has at most ten digits (`few-digits`), so that
+// 165 bytes are room enough, and because each entry stands behind those before it
+// (proofs/Text.antt).
 ghost use mathlib.Core.Path.{_≡_};
 ghost use mathlib.Core.List.{_++_};
 ghost use Prim.Native.Nat.{_+_, _≤_};
@@ -33,7 +34,7 @@ fn main() {
         os::fail(b"standard input");
         return;
     }
-    let mut text = [0u8; 110];
+    let mut text = [0u8; 165];
     let length = lines(&chips[..count], &mut text);
     if !io::write_all(STDOUT_FILENO, &text[..length]) {
         os::fail(b"standard output");
@@ -55,14 +56,15 @@ fn ended() -> bool {
     libc::read(STDIN_FILENO, &mut more) == 0
 }
 
-// Both lines of a capture, at the front of the lent text. Gives back how many bytes they have.
+// The lines of a capture, a mode each, at the front of the lent text. Gives back how many bytes they have.
 fn lines(chips: &[u8], text: &mut [u8]) -> usize
-    requires { ⌜ 110 ≤ length (now text) ⌝ }
+    requires { ⌜ 165 ≤ length (now text) ⌝ }
     ensures { λ r. ⌜ Counts r (now (text .exit)) ⌝ }
     ensures { λ r. ⌜ take r (now (text .exit)) ≡ linesOf (now (chips .entry)) ⌝ }
 {
-    let at = line(0, chips, text, 0);
-    line(1, chips, text, at)
+    let one = line(0, chips, text, 0);
+    let two = line(1, chips, text, one);
+    line(2, chips, text, two)
 }
 
 // The line of one mode, behind the first `at` bytes of the text. Gives back where it ends.

@@ -1,5 +1,5 @@
 -- Facts of the words that the work stands on, each one test that antt computes over every word or
--- pair of words, and from them that both radios are sound. Assumes nothing.
+-- pair of words, and from them that every radio is sound. Assumes nothing.
 use mathlib.Core.Path.{_≡_, refl}
 use mathlib.Core.Bool.{Bool, true, false, not}
 use mathlib.Core.List.{List, [], _∷_}
@@ -9,7 +9,7 @@ use lib.ListN.{length, replicate}
 use lib.Dec.{eqb, ltb}
 use borrow.Author.Tests.{eqb-true, eqb-false, ltb-true, ne-eqb, not-true}
 use Rattle.codes.specs.Chips.{pick, among, distance, bad}
-use Rattle.codes.specs.Radio.{Radio, word, Sound, Unflat, radioOf, bpsk, oqpsk, bpskWords, oqpskWord, oqpskWords, turned, turns, oddInverted, turnedWords}
+use Rattle.codes.specs.Radio.{Radio, word, Sound, Unflat, radioOf, bpsk, oqpsk, lowband, bpskWords, oqpskWord, oqpskWords, lowbandWord, lowbandWords, turned, turns, oddInverted, turnedWords}
 use Rattle.codes.proofs.Tests.{by-test, not-both, every, each}
 use Rattle.codes.proofs.Modes.{each-row}
 
@@ -48,6 +48,23 @@ oqpsk-ones v h = eqb-true _ _ (each-word oqpsk (λ v. eqb (ones (word oqpsk v)) 
 pub bpsk-words : (distance (word bpsk 0) (word bpsk 1) ≡ 15) × (ones (word bpsk 0) ≡ 8) × (ones (word bpsk 1) ≡ 7)
 unfolding distance bpskWords
 bpsk-words = (refl, refl, refl)
+
+-- any two mode 2 words differ in 6, 8 or 10 chips
+pub lowband-pairs : (u v : ℕ) → u < 16 → v < 16 → (u ≡ v → ⊥) → among (distance (word lowband u) (word lowband v)) (6 ∷ 8 ∷ 10 ∷ []) ≡ true
+unfolding everyPair every distance lowbandWords turnedWords turns turned oddInverted lowbandWord
+lowband-pairs = each-pair lowband (λ u v. among (distance (word lowband u) (word lowband v)) (6 ∷ 8 ∷ 10 ∷ [])) refl
+
+-- every mode 2 word has 8 ones
+pub lowband-ones : (v : ℕ) → v < 16 → ones (word lowband v) ≡ 8
+unfolding everyWord every lowbandWords turnedWords turns turned oddInverted lowbandWord
+lowband-ones v h = eqb-true _ _ (each-word lowband (λ v. eqb (ones (word lowband v)) 8) refl v h)
+
+-- a flat symbol stands 8 from every mode 2 word
+pub lowband-flat : (c : ℕ) → c ≤ 1 → (v : ℕ) → v < 16 → distance (replicate 16 c) (word lowband v) ≡ 8
+unfolding everyWord every distance lowbandWords turnedWords turns turned oddInverted lowbandWord
+lowband-flat zero l v h = eqb-true _ _ (each-word lowband (λ v. eqb (distance (replicate 16 0) (word lowband v)) 8) refl v h)
+lowband-flat (suc zero) l v h = eqb-true _ _ (each-word lowband (λ v. eqb (distance (replicate 16 1) (word lowband v)) 8) refl v h)
+lowband-flat (suc (suc c)) l v h = absurd (omega arith)
 
 -- a flat symbol, all 0 or all 1, is farther than the limit from every word
 flatTest : Radio → Bool
@@ -101,6 +118,10 @@ pub sound-oqpsk : Sound oqpsk
 unfolding sizedTest chipsTest apartTest everyWord everyPair every distance bad oqpskWords turnedWords turns turned oddInverted oqpskWord
 sound-oqpsk = sound-by oqpsk refl refl refl refl (λ c. not-both false c refl) refl
 
+pub sound-lowband : Sound lowband
+unfolding sizedTest chipsTest apartTest everyWord everyPair every distance bad lowbandWords turnedWords turns turned oddInverted lowbandWord
+sound-lowband = sound-by lowband refl refl refl refl (λ c. not-both false c refl) refl
+
 unflat-bpsk : Unflat bpsk
 unfolding flatTest everyWord every distance bpskWords
 unflat-bpsk = unflat-by bpsk refl
@@ -109,10 +130,14 @@ unflat-oqpsk : Unflat oqpsk
 unfolding flatTest everyWord every distance oqpskWords turnedWords turns turned oddInverted oqpskWord
 unflat-oqpsk = unflat-by oqpsk refl
 
+unflat-lowband : Unflat lowband
+unfolding flatTest everyWord every distance lowbandWords turnedWords turns turned oddInverted lowbandWord
+unflat-lowband = unflat-by lowband refl
+
 -- no row takes a flat symbol for a word
 pub unflat : (mode : ℕ) → Unflat (radioOf mode)
-unflat = each-row Unflat unflat-bpsk unflat-oqpsk
+unflat = each-row Unflat unflat-bpsk unflat-oqpsk unflat-lowband
 
 -- each row is sound
 pub sound : (mode : ℕ) → Sound (radioOf mode)
-sound = each-row Sound sound-bpsk sound-oqpsk
+sound = each-row Sound sound-bpsk sound-oqpsk sound-lowband

@@ -3,7 +3,7 @@
 -- symbol of the bits is that of the chips. The reader's loop and the receiver's stand on it alike.
 -- Over any layout that has a place for each chip. Assumes nothing.
 use mathlib.Core.Path.{_≡_, refl, sym, ap, _∙_}
-use mathlib.Core.Bool.{true, false}
+use mathlib.Core.Bool.{Bool, true, false}
 use mathlib.Core.List.{List}
 use Prim.Native.Nat.{ℕ, zero, suc, _+_, _-_, _*_, _/_, _%_, _^_, _≤_, _<_}
 use native.Mathlib.Nat.{zero-mul, mul-le-mul-right, eq-or-lt-of-le}
@@ -12,14 +12,15 @@ use native.Mathlib.Omega.{arith}
 use mathlib.Core.Logic.{_⊎_, inl, inr}
 use lib.ListN.{length, getD, take, drop, length-take}
 use lib.Seq.{ext-getD}
-use lib.Dec.{ltb}
-use borrow.Author.Tests.{lt-ltb, le-ltb, ltb-true, ltb-false}
+use lib.Dec.{leb, ltb}
+use borrow.Author.Tests.{lt-ltb, le-ltb, ltb-true, ltb-false, leb-true}
 use Rattle.codes.specs.Chips.{pick, bad}
-use Rattle.codes.specs.Radio.{known, radioOf}
+use Rattle.codes.specs.Radio.{known, radioOf, bpsk, oqpsk, lowband}
 use Rattle.codes.specs.Symbol.{symbolOf}
 use Rattle.codes.specs.Packed.{from, packed}
-use Rattle.codes.specs.Gathered.{Layout, bitLayout, columnLayout, layoutOf, NOEIGHT, gathered, gatheredAt, eightOf, chipIn, listed, symbolIn}
-use Rattle.codes.proofs.Tests.{by-test, not-both, upto}
+use Rattle.codes.specs.Gathered.{Layout, layoutOf, NOEIGHT, gathered, gatheredBy, gatheredAt, eightOf, chipIn, listed, symbolIn}
+use Rattle.codes.proofs.Tests.{by-test, not-both, both-true, upto, every, each}
+use Rattle.codes.proofs.Modes.{each-row, everyRow, row-test}
 use Rattle.codes.proofs.Chips.{chip-at, chips-good, window-chip}
 use Rattle.codes.proofs.Packed.{packed-lt, packed-add, packed-digit}
 
@@ -71,6 +72,10 @@ heaped-up l k (suc n) j h = go (eq-or-lt-of-le h) (heaped-up l k n j)
     go (inl e) r = rw e (omega arith)
     go (inr l) r = omega (arith, r (upto k n l))
 
+-- no eight's bits hide another's
+abbrev Told : Layout → Type 0
+Told l = (f : ℕ → ℕ) (e j : ℕ) → e < l .eights → j < 8 → Good l f (l .eights) → heaped l f (l .eights) j / 2 ^ (e * l .lift) % 2 ≡ f (e * l .step + j)
+
 -- A layout serves symbols of a size where its eights lie within the symbol, each chip has a place
 -- in one of them, the bytes have room for all and to spare, and no eight's bits hide another's.
 record Lays (l : Layout) (size : ℕ) : Type 0 where
@@ -78,7 +83,7 @@ record Lays (l : Layout) (size : ℕ) : Type 0 where
   inside : (e : ℕ) → e < l .eights → e * l .step + 8 ≤ size
   placed : (i : ℕ) → i < size → (eightOf l i < l .eights) × (eightOf l i * l .step ≤ i) × (i - eightOf l i * l .step < 8)
   room : (j : ℕ) → heaped l (λ i. 1) (l .eights) j ≤ 85
-  apart : (f : ℕ → ℕ) (e j : ℕ) → e < l .eights → j < 8 → Good l f (l .eights) → heaped l f (l .eights) j / 2 ^ (e * l .lift) % 2 ≡ f (e * l .step + j)
+  apart : Told l
 
 -- so a byte of the bits is far from full
 heaped-few : (l : Layout) (size : ℕ) → Lays l size → (f : ℕ → ℕ) (k j : ℕ) → k ≤ l .eights → j < 8 → Good l f k → heaped l f k j ≤ 85
@@ -191,56 +196,81 @@ module _ (l : Layout) (size : ℕ) (L : Lays l size) (part : List ℕ) where
         heap : ℕ → ℕ
         heap = heaped l (chipAt part) (l .eights)
 
--- mode 0's layout
-lays-bit : Lays bitLayout 15
-unfolding heaped
-lays-bit =
+-- where a chip stands, and where the eights do: tests that antt computes
+placeTest : Layout → ℕ → Bool
+placeTest l i =
+    pick (ltb (eightOf l i) (l .eights)) (pick (leb (eightOf l i * l .step) i) (ltb (i - eightOf l i * l .step) 8) false) false
+
+laysTest : Layout → ℕ → Bool
+laysTest l size =
+    pick (leb (l .eights) 4) (pick (every (λ e. leb (e * l .step + 8) size) (l .eights)) (every (placeTest l) size) false) false
+
+lays-by : (l : Layout) (size : ℕ) → laysTest l size ≡ true → ((j : ℕ) → heaped l (λ i. 1) (l .eights) j ≤ 85) → Told l → Lays l size
+unfolding laysTest placeTest
+lays-by l size t room apart =
+    let f = both-true (leb (l .eights) 4) _ t in
+    let s = both-true (every (λ e. leb (e * l .step + 8) size) (l .eights)) _ (f .1) in
     record {
-      few = omega arith;
-      inside = λ e h. omega arith;
-      placed = λ i h. (omega arith, omega arith, omega arith);
-      room = λ j. omega arith;
+      few = leb-true _ _ (f .0);
+      inside = λ e h. leb-true _ _ (each (λ e. leb (e * l .step + 8) size) (l .eights) (s .0) e h);
+      placed = λ i h.
+          let p = both-true _ _ (each (placeTest l) size (s .1) i h) in
+          let q = both-true _ _ (p .1) in
+          (ltb-true _ _ (p .0), leb-true _ _ (q .0), ltb-true _ _ (q .1));
+      room = room;
       apart = apart;
     }
-  where
-    apart : (f : ℕ → ℕ) (e j : ℕ) → e < 2 → j < 8 → Good bitLayout f 2 → heaped bitLayout f 2 j / 2 ^ (e * 1) % 2 ≡ f (e * 7 + j)
-    apart f zero j h i g = omega (arith, g 0 j (omega arith) i, g 1 j (omega arith) i)
-    apart f (suc zero) j h i g = omega (arith, g 0 j (omega arith) i, g 1 j (omega arith) i)
-    apart f (suc (suc e)) j h i g = absurd (omega arith)
 
--- mode 1's
-lays-column : Lays columnLayout 32
+-- of two eights whose bits lie four apart, and of four whose bits lie two apart, each chip is read
+-- back
+told-two : (step : ℕ) → Told (record { eights = 2; step = step; lift = 4 })
 unfolding heaped
-lays-column =
-    record {
-      few = omega arith;
-      inside = λ e h. omega arith;
-      placed = λ i h. (omega arith, omega arith, omega arith);
-      room = λ j. omega arith;
-      apart = apart;
-    }
+told-two step f e j h i g = go e h (g 0 j (omega arith) i) (g 1 j (omega arith) i)
   where
-    apart : (f : ℕ → ℕ) (e j : ℕ) → e < 4 → j < 8 → Good columnLayout f 4 → heaped columnLayout f 4 j / 2 ^ (e * 2) % 2 ≡ f (e * 8 + j)
-    apart f zero j h i g = omega (arith, g 0 j (omega arith) i, g 1 j (omega arith) i, g 2 j (omega arith) i, g 3 j (omega arith) i)
-    apart f (suc zero) j h i g = omega (arith, g 0 j (omega arith) i, g 1 j (omega arith) i, g 2 j (omega arith) i, g 3 j (omega arith) i)
-    apart f (suc (suc zero)) j h i g = omega (arith, g 0 j (omega arith) i, g 1 j (omega arith) i, g 2 j (omega arith) i, g 3 j (omega arith) i)
-    apart f (suc (suc (suc zero))) j h i g = omega (arith, g 0 j (omega arith) i, g 1 j (omega arith) i, g 2 j (omega arith) i, g 3 j (omega arith) i)
-    apart f (suc (suc (suc (suc e)))) j h i g = absurd (omega arith)
+    go : (e : ℕ) → e < 2 → f (0 * step + j) ≤ 1 → f (1 * step + j) ≤ 1
+        → (0 + f (0 * step + j) * 2 ^ (0 * 4) + f (1 * step + j) * 2 ^ (1 * 4)) / 2 ^ (e * 4) % 2 ≡ f (e * step + j)
+    go zero h a b = omega arith
+    go (suc zero) h a b = omega arith
+    go (suc (suc e)) h a b = absurd (omega arith)
 
-lays : (mode : ℕ) → Lays (layoutOf mode) (radioOf mode .size)
-lays zero = lays-bit
-lays (suc zero) = lays-column
-lays (suc (suc mode)) = lays-bit
+told-four : (step : ℕ) → Told (record { eights = 4; step = step; lift = 2 })
+unfolding heaped
+told-four step f e j h i g = go e h (g 0 j (omega arith) i) (g 1 j (omega arith) i) (g 2 j (omega arith) i) (g 3 j (omega arith) i)
+  where
+    go : (e : ℕ) → e < 4 → f (0 * step + j) ≤ 1 → f (1 * step + j) ≤ 1 → f (2 * step + j) ≤ 1 → f (3 * step + j) ≤ 1
+        → (0 + f (0 * step + j) * 2 ^ (0 * 2) + f (1 * step + j) * 2 ^ (1 * 2) + f (2 * step + j) * 2 ^ (2 * 2) + f (3 * step + j) * 2 ^ (3 * 2)) / 2 ^ (e * 2) % 2
+        ≡ f (e * step + j)
+    go zero h a b c d = omega arith
+    go (suc zero) h a b c d = omega arith
+    go (suc (suc zero)) h a b c d = omega arith
+    go (suc (suc (suc zero))) h a b c d = omega arith
+    go (suc (suc (suc (suc e)))) h a b c d = absurd (omega arith)
+
+-- the layout of each radio serves its symbols
+lays : (mode : ℕ) → Lays (layoutOf (radioOf mode)) (radioOf mode .size)
+unfolding laysTest placeTest every heaped
+lays =
+    each-row (λ r. Lays (layoutOf r) (r .size))
+    (lays-by (layoutOf bpsk) 15 refl (λ j. omega arith) (told-two 7))
+    (lays-by (layoutOf oqpsk) 32 refl (λ j. omega arith) (told-four 8))
+    (lays-by (layoutOf lowband) 16 refl (λ j. omega arith) (told-two 8))
+
+-- and its numbers are small
+pub layout-few : (mode : ℕ) → (layoutOf (radioOf mode) .eights ≤ 4) × (layoutOf (radioOf mode) .step ≤ 8) × (layoutOf (radioOf mode) .lift ≤ 8)
+layout-few mode = (few (λ l. l .eights) 4 refl, few (λ l. l .step) 8 refl, few (λ l. l .lift) 8 refl)
+  where
+    few : (f : Layout → ℕ) (n : ℕ) → everyRow (λ r. leb (f (layoutOf r)) n) ≡ true → f (layoutOf (radioOf mode)) ≤ n
+    few f n t = leb-true _ _ (row-test (λ r. leb (f (layoutOf r)) n) t mode)
 
 -- At a mode that has a radio, for the loops, which run over all eights that a symbol can have:
 -- after k turns the bits are those of k eights, or of all.
 pub record Loop (mode : ℕ) (part : List ℕ) (k bits : ℕ) : Type 0 where
   few : k ≤ 4
-  gathers : Gathers (layoutOf mode) part (pick (ltb k (layoutOf mode .eights)) k (layoutOf mode .eights)) bits
+  gathers : Gathers (layoutOf (radioOf mode)) part (pick (ltb k (layoutOf (radioOf mode) .eights)) k (layoutOf (radioOf mode) .eights)) bits
 
 module _ (mode : ℕ) (m : known mode ≡ true) (part : List ℕ) where
   abbrev laying : Layout
-  laying = layoutOf mode
+  laying = layoutOf (radioOf mode)
 
   -- how many are gathered
   abbrev reached : ℕ → ℕ

@@ -70,6 +70,17 @@ apart-inverse f g h (suc k) b d e =
         (λ t. omega (arith, differ-same x y (eqb-true x y t), differ-other x z (λ u. omega (arith, eqb-true x y t))))
         (λ t. omega (arith, differ-other x y (eqb-false x y t), differ-same x z (omega (arith, eqb-false x y t))))
 
+-- the sum of the first k values
+unfoldable pub total : (ℕ → ℕ) → ℕ → ℕ
+total f zero = 0
+total f (suc k) = total f k + f k
+
+-- of differences it is the number of places
+pub total-apart : (d f g : ℕ → ℕ) (k : ℕ) → ((i : ℕ) → i < k → d i ≡ differ (f i) (g i)) → total d k ≡ apart f g k
+unfolding total apart
+total-apart d f g zero e = refl
+total-apart d f g (suc k) e = rw (total-apart d f g k (λ i l. e i (omega arith)), e k (omega arith))
+
 -- windows that agree
 pub apart-cong : (f f′ g g′ : ℕ → ℕ) (k : ℕ) → ((i : ℕ) → i < k → f i ≡ f′ i) → ((i : ℕ) → i < k → g i ≡ g′ i) → apart f g k ≡ apart f′ g′ k
 unfolding apart

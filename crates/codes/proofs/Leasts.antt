@@ -1,10 +1,10 @@
--- The least of some keys of distance and number: the word that has it is as near as any.
+-- The least of some values, and of keys of distance and number: it tells the nearest word.
 -- Assumes nothing.
 use mathlib.Core.Path.{_≡_, refl, sym, _∙_}
 use mathlib.Core.Bool.{Bool, true, false}
 use mathlib.Core.List.{List}
 use mathlib.Core.Logic.{_⊎_, inl, inr}
-use Prim.Native.Nat.{ℕ, zero, suc, _+_, _-_, _/_, _%_, _≤_, _<_}
+use Prim.Native.Nat.{ℕ, zero, suc, _+_, _-_, _*_, _/_, _%_, _≤_, _<_}
 use native.Mathlib.Nat.{eq-or-lt-of-le}
 use native.Mathlib.Numerals.{add-one}
 use native.Mathlib.Omega.{arith}
@@ -13,7 +13,7 @@ use lib.ListN.{length, getD, set, length-set}
 use lib.Seq.{getD-set-same, getD-set-other}
 use borrow.Author.Tests.{ltb-true, ltb-false, lt-ltb, le-ltb}
 use Rattle.codes.specs.Chips.{pick}
-use Rattle.codes.specs.Columns.{keyOf, least}
+use Rattle.codes.specs.Columns.{keyOf, nearOf, least}
 use Rattle.codes.proofs.Tests.{upto}
 
 module _ (s : ℕ) (f : ℕ → ℕ) where
@@ -27,7 +27,7 @@ module _ (s : ℕ) (f : ℕ → ℕ) where
   no-less k x m p q h = rw (add-one, ← p, ← q, le-ltb x m h)
 
   -- none is less
-  least-le : (k u : ℕ) → u < k → least s f k ≤ f u
+  pub least-le : (k u : ℕ) → u < k → least s f k ≤ f u
   unfolding least
   least-le zero u h = absurd (omega arith)
   least-le (suc k) u h = go (ltb (f k) (least s f k)) refl (eq-or-lt-of-le (upto u k h)) (least-le k u)
@@ -39,7 +39,7 @@ module _ (s : ℕ) (f : ℕ → ℕ) where
       go false e (inr l) r = r l
 
   -- and where it is below s it is one of them
-  least-at : (k : ℕ) → least s f k < s → (u : ℕ) × (u < k) × (f u ≡ least s f k)
+  pub least-at : (k : ℕ) → least s f k < s → (u : ℕ) × (u < k) × (f u ≡ least s f k)
   unfolding least
   least-at zero h = absurd (omega arith)
   least-at (suc k) h = go (ltb (f k) (least s f k)) (least-at k) h
@@ -48,6 +48,12 @@ module _ (s : ℕ) (f : ℕ → ℕ) where
           → pick b (f k) (least s f k) < s → (u : ℕ) × (u < suc k) × (f u ≡ pick b (f k) (least s f k))
       go true r h = (k, omega arith, refl)
       go false r h = let t = r h in (t .0, omega (arith, t .1), t .2)
+
+  -- so one of them that is below s, and that none is below, is the least
+  pub least-is : (k x u : ℕ) → u < k → f u ≡ x → x < s → ((v : ℕ) → v < k → x ≤ f v) → x ≡ least s f k
+  least-is k x u h e b l =
+      let t = least-at k (omega (arith, least-le k u h, e, b)) in
+      omega (arith, least-le k u h, e, l (t .0) (t .1), t .2)
 
 -- values that agree
 pub least-cong : (s : ℕ) (f g : ℕ → ℕ) (k : ℕ) → ((u : ℕ) → u < k → f u ≡ g u) → least s f k ≡ least s g k
@@ -65,17 +71,15 @@ module _ (d : ℕ → ℕ) (small : (v : ℕ) → v < 16 → d v ≤ 32) (m : �
   pub key-pos : 1 ≤ m
   key-pos = let t = some-word in omega (arith, t .2)
 
-  -- its number
-  number-is : some-word .0 ≡ (m - 1) % 16
-  number-is = let t = some-word in omega (arith, t .1, t .2)
-
-  -- its distance
-  pub key-apart : m / 32 ≡ d ((m - 1) % 16)
-  key-apart = let t = some-word in rw (← number-is) (omega (arith, t .1, t .2))
-
-  -- and no word is nearer
-  pub key-nearest : (u : ℕ) → u < 16 → m / 32 ≤ d u
-  key-nearest u h = omega (arith, least-le 0xFFFF (keyOf d) 16 u h, e)
+  -- and the least of 16 times the distance and the number is what it tells
+  pub key-near : (f : ℕ → ℕ) → ((v : ℕ) → v < 16 → f v ≡ d v * 16 + v) → nearOf m ≡ least 0xFFFF f 16
+  key-near f q =
+      let t = some-word in
+      let b = small (t .0) (t .1) in
+      least-is 0xFFFF f 16 (nearOf m) (t .0) (t .1)
+      (omega (arith, q (t .0) (t .1), t .1, t .2))
+      (omega (arith, b, t .1, t .2))
+      (λ v h. omega (arith, q v h, h, t .1, t .2, e, least-le 0xFFFF (keyOf d) 16 v h))
 
 -- a turn of the loop that writes two keys, the second half's eight places on
 module _ (lo hi : ℕ → ℕ) (k : List ℕ) (i x y : ℕ) (long : length k ≡ 16) (h : i < 8) (ex : x ≡ lo i) (ey : y ≡ hi i) where

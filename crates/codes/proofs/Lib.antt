@@ -13,9 +13,9 @@ pub mod Printed
 pub mod Runs
 pub mod Rule
 pub mod Laid
-pub mod Nearest
-pub mod Bits
 pub mod Leasts
+pub mod Judging
+pub mod Bits
 pub mod Words
 pub mod Turned
 pub mod Settled

@@ -1,47 +1,60 @@
--- What is true of each radio is true of a mode's, and what tests of a mode number leave.
--- Assumes nothing.
-use mathlib.Core.Path.{_≡_, sym, _∙_}
-use mathlib.Core.Bool.{true, false}
-use Prim.Native.Nat.{ℕ, zero, suc}
+-- What is true of each radio is true of a mode's, what tests of a mode number leave, and the
+-- numbers that a mode's row has. Assumes nothing.
+use mathlib.Core.Path.{_≡_, refl, ap, sym, _∙_}
+use mathlib.Core.Bool.{Bool, true, false}
+use Prim.Native.Nat.{ℕ, zero, suc, _<_}
 use native.Mathlib.Omega.{arith}
+use lib.Dec.{ltb}
 use borrow.Author.Tests.{le-ltb, ltb-true}
+use Rattle.codes.specs.declared.Phy.{Phy}
 use Rattle.codes.specs.Chips.{pick}
-use Rattle.codes.specs.Radio.{Radio, known, radioOf, bpsk, oqpsk}
-use Rattle.codes.specs.Sizes.{sizeAt}
-use Rattle.codes.proofs.Tests.{by-test}
+use Rattle.codes.specs.Radio.{Radio, known, radioOf, bpsk, oqpsk, lowband}
+use Rattle.codes.specs.Phy.{phyOf, noPhy, phyAt}
+use Rattle.codes.proofs.Tests.{by-test, both-true}
 
-pub each-row : (P : Radio → Type 0) → P bpsk → P oqpsk → (mode : ℕ) → P (radioOf mode)
-each-row P b o zero = b
-each-row P b o (suc zero) = o
-each-row P b o (suc (suc m)) = b
+pub each-row : (P : Radio → Type 0) → P bpsk → P oqpsk → P lowband → (mode : ℕ) → P (radioOf mode)
+each-row P b o l zero = b
+each-row P b o l (suc zero) = o
+each-row P b o l (suc (suc zero)) = l
+each-row P b o l (suc (suc (suc m))) = b
 
-pub unknown : (mode : ℕ) → (mode ≡ 0 → ⊥) → (mode ≡ 1 → ⊥) → known mode ≡ false
-unknown mode p q = le-ltb mode 2 (omega arith)
+-- a test of every row, which antt computes, and what it says of a mode's
+abbrev pub everyRow : (Radio → Bool) → Bool
+everyRow p = pick (p bpsk) (pick (p oqpsk) (p lowband) false) false
 
--- a mode that has a radio and is not 0 is 1
-pub second : (mode : ℕ) → known mode ≡ true → (mode ≡ 0 → ⊥) → mode ≡ 1
-second mode k n = omega (arith, ltb-true mode 2 k)
+pub row-test : (p : Radio → Bool) → everyRow p ≡ true → (mode : ℕ) → p (radioOf mode) ≡ true
+row-test p t =
+    let b = both-true (p bpsk) _ t in
+    let o = both-true (p oqpsk) _ (b .1) in
+    each-row (λ r. p r ≡ true) (b .0) (o .0) (o .1)
 
--- the symbols of a mode that has a radio have that radio's size
-pub size-known : (mode : ℕ) → known mode ≡ true → sizeAt mode ≡ radioOf mode .size
-size-known mode k = rw k
+pub unknown : (mode : ℕ) → (mode ≡ 0 → ⊥) → (mode ≡ 1 → ⊥) → (mode ≡ 2 → ⊥) → known mode ≡ false
+unknown mode p q r = le-ltb mode 3 (omega arith)
 
--- a number that each radio has, and that is 0 where there is no radio: where it isn't 0 there is
--- one, and it is that radio's
-pub numbered : (f : Radio → ℕ) (mode x : ℕ) → x ≡ pick (known mode) (f (radioOf mode)) 0 → (x ≡ 0 → ⊥) → (known mode ≡ true) × (x ≡ f (radioOf mode))
-numbered f mode x e n = by-test (known mode) (λ a. (a, e ∙ rw a)) (λ a. absurd (n (e ∙ rw a)))
+-- a mode that has a radio and is neither 0 nor 1 is 2
+pub third : (mode : ℕ) → known mode ≡ true → (mode ≡ 0 → ⊥) → (mode ≡ 1 → ⊥) → mode ≡ 2
+third mode k p q = omega (arith, ltb-true mode 3 k)
 
--- and where it is 0, and no radio's is, there is none
-pub numberless : (f : Radio → ℕ) → (f bpsk ≡ 0 → ⊥) → (f oqpsk ≡ 0 → ⊥) → (mode x : ℕ) → x ≡ pick (known mode) (f (radioOf mode)) 0 → x ≡ 0 → known mode ≡ false
-numberless f b o mode x e z =
-    by-test (known mode)
-    (λ a. let n : x ≡ f (radioOf mode) = e ∙ rw a in absurd (each-row (λ r. f r ≡ 0 → ⊥) b o mode (sym n ∙ z)))
-    (λ a. a)
+-- the numbers of a mode that has a radio are that radio's
+pub phy-known : (mode : ℕ) → known mode ≡ true → phyAt mode ≡ phyOf (radioOf mode)
+unfolding phyAt
+phy-known mode k = rw k
 
--- a mode whose symbols have chips has a radio, and they are that radio's
-pub sized : (mode size : ℕ) → size ≡ sizeAt mode → (size ≡ 0 → ⊥) → (known mode ≡ true) × (size ≡ radioOf mode .size)
-sized mode size = numbered (λ (r : Radio). r .size) mode size
+-- no radio has symbols of no chips
+some-chips : (mode : ℕ) → 0 < radioOf mode .size
+some-chips mode = ltb-true 0 _ (row-test (λ r. ltb 0 (r .size)) refl mode)
 
--- and one whose symbols have none has no radio
-pub sizeless : (mode size : ℕ) → size ≡ sizeAt mode → size ≡ 0 → known mode ≡ false
-sizeless mode size = numberless (λ (r : Radio). r .size) (λ x. omega arith) (λ x. omega arith) mode size
+module _ (mode : ℕ) (p : Phy) (e : p ≡ phyAt mode) where
+  -- a mode whose symbols have chips has a radio, and the numbers are that radio's
+  pub phy-sized : (p .size ≡ 0 → ⊥) → (known mode ≡ true) × (p ≡ phyOf (radioOf mode))
+  unfolding phyAt
+  phy-sized n =
+      by-test (known mode) (λ k. (k, e ∙ rw k)) (λ k. let z : p ≡ noPhy = e ∙ rw k in absurd (n (ap (λ (q : Phy). q .size) z)))
+
+  -- and one whose symbols have none has no radio
+  pub phy-sizeless : p .size ≡ 0 → known mode ≡ false
+  unfolding phyAt
+  phy-sizeless z =
+      by-test (known mode)
+      (λ k. let q : p ≡ phyOf (radioOf mode) = e ∙ rw k in absurd (omega (arith, some-chips mode, ap (λ (q : Phy). q .size) q)))
+      (λ k. k)

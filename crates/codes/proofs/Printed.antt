@@ -5,9 +5,10 @@
 use mathlib.Core.Path.{_≡_, refl}
 use mathlib.Core.List.{List, [], _∷_, map}
 use Prim.Native.Nat.{ℕ, zero, suc, _/_, _%_, _^_}
+use lib.ListN.{take, drop}
 use Rattle.codes.specs.Numbers.{DONE, BADMODE, TOOLONG, NOROOM, RUNOUT, NOCHIP, LOST, PREAMBLE, BADSTART, RESERVED}
 use Rattle.codes.specs.Numbers.{ENDED, BADPART, NOTENDED, MORE, FORGED}
-use Rattle.codes.specs.Radio.{bpsk, oqpsk, bpskWords, oqpskWord, oqpskWords, turned, turns, oddInverted, turnedWords}
+use Rattle.codes.specs.Radio.{bpsk, oqpsk, lowband, bpskWords, oqpskWord, oqpskWords, lowbandWord, lowbandWords, turned, turns, oddInverted, turnedWords}
 
 -- the numbers given back, in the order of document 01's table
 pub numbers-listed :
@@ -48,3 +49,22 @@ pub table-21 : oqpsk .words
     ∷ [])
 unfolding oqpskWords turnedWords turns turned oddInverted oqpskWord
 table-21 = refl
+
+-- Table 32: the words of data symbols 4 to 8 and 12 to 15, the rows that it prints with 16 chips
+pub table-32 : (take 5 (drop 4 (lowband .words))
+    ≡ map (printed 16)
+    (0010010100111110
+    ∷ 1000100101001111
+    ∷ 1110001001010011
+    ∷ 1111100010010100
+    ∷ 0110101101110000
+    ∷ []))
+    × (drop 12 (lowband .words)
+    ≡ map (printed 16)
+    (0111000001101011
+    ∷ 1101110000011010
+    ∷ 1011011100000110
+    ∷ 1010110111000001
+    ∷ []))
+unfolding lowbandWords turnedWords turns turned oddInverted lowbandWord
+table-32 = (refl, refl)

@@ -10,14 +10,14 @@ use Prim.Native.Nat.{ℕ}
 use contract.Lifetimes.{Lfts}
 use denote.Triple.Clauses.{AtExit}
 use borrow.Fn.Kinds.{PK, RK, In, Out, Dens, resT, endedOf}
-use Rattle.codes.proofs.size_of.Kinds as size-of-kinds
-use Rattle.codes.proofs.size_of.Reads as size-of-promise
-use Rattle.codes.proofs.limit_of.Kinds as limit-of-kinds
-use Rattle.codes.proofs.limit_of.Reads as limit-of-promise
+use Rattle.codes.proofs.phy_of.Kinds as phy-of-kinds
+use Rattle.codes.proofs.phy_of.Reads as phy-of-promise
 use Rattle.codes.proofs.gather.Kinds as gather-kinds
 use Rattle.codes.proofs.gather.Reads as gather-promise
-use Rattle.codes.proofs.matched.Kinds as matched-kinds
-use Rattle.codes.proofs.matched.Reads as matched-promise
+use Rattle.codes.proofs.nearest.Kinds as nearest-kinds
+use Rattle.codes.proofs.nearest.Reads as nearest-promise
+use Rattle.codes.proofs.judge.Kinds as judge-kinds
+use Rattle.codes.proofs.judge.Reads as judge-promise
 use Rattle.codes.proofs.strips.strip.Kinds as strip-kinds
 use Rattle.codes.proofs.strips.strip.Reads as strip-promise
 use Rattle.codes.proofs.strips.row_of.Kinds as row-of-kinds
@@ -34,17 +34,17 @@ Settles n ps r Post = (κs : Lfts n) (a : Dens κs ps) (p q : resT r κs .Denot)
 abbrev pub AsksNothing : (n : ℕ) (ps : List (PK n)) → In n ps → Type 0
 AsksNothing n ps Pre = (κs : Lfts n) (a : Dens κs ps) → Pre κs a
 
-pub size-of-settled : Settles 0 size-of-kinds.ps size-of-kinds.r size-of-promise.Post
-size-of-settled κs a p q s t = settled p q
-
-pub limit-of-settled : Settles 0 limit-of-kinds.ps limit-of-kinds.r limit-of-promise.Post
-limit-of-settled κs a p q s t = settled p q
+pub phy-of-settled : Settles 0 phy-of-kinds.ps phy-of-kinds.r phy-of-promise.Post
+phy-of-settled κs a p q s t = settled p q
 
 pub gather-settled : Settles 1 gather-kinds.ps gather-kinds.r gather-promise.Post
 gather-settled κs a p q s t = settled p q
 
-pub matched-settled : Settles 0 matched-kinds.ps matched-kinds.r matched-promise.Post
-matched-settled κs a p q s t = settled p q
+pub nearest-settled : Settles 0 nearest-kinds.ps nearest-kinds.r nearest-promise.Post
+nearest-settled κs a p q s t = settled p q
+
+pub judge-settled : Settles 0 judge-kinds.ps judge-kinds.r judge-promise.Post
+judge-settled κs a p q s t = settled p q
 
 pub strip-settled : Settles 0 strip-kinds.ps strip-kinds.r strip-promise.Post
 strip-settled κs a p q s t = settled p q
@@ -52,17 +52,17 @@ strip-settled κs a p q s t = settled p q
 pub row-of-settled : Settles 0 row-of-kinds.ps row-of-kinds.r row-of-promise.Post
 row-of-settled κs a p q s t = settled p q
 
-pub size-of-asks-nothing : AsksNothing 0 size-of-kinds.ps size-of-promise.Pre
-size-of-asks-nothing κs a = tt
-
-pub limit-of-asks-nothing : AsksNothing 0 limit-of-kinds.ps limit-of-promise.Pre
-limit-of-asks-nothing κs a = tt
+pub phy-of-asks-nothing : AsksNothing 0 phy-of-kinds.ps phy-of-promise.Pre
+phy-of-asks-nothing κs a = tt
 
 pub gather-asks-nothing : AsksNothing 1 gather-kinds.ps gather-promise.Pre
 gather-asks-nothing κs a = tt
 
-pub matched-asks-nothing : AsksNothing 0 matched-kinds.ps matched-promise.Pre
-matched-asks-nothing κs a = tt
+pub nearest-asks-nothing : AsksNothing 0 nearest-kinds.ps nearest-promise.Pre
+nearest-asks-nothing κs a = tt
+
+pub judge-asks-nothing : AsksNothing 0 judge-kinds.ps judge-promise.Pre
+judge-asks-nothing κs a = tt
 
 pub strip-asks-nothing : AsksNothing 0 strip-kinds.ps strip-promise.Pre
 strip-asks-nothing κs a = tt

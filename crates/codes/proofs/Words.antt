@@ -13,7 +13,7 @@ use lib.ListN.{length, getD}
 use lib.Dec.{eqb, ltb}
 use borrow.Author.Tests.{eqb-true, ltb-true, ltb-false}
 use Rattle.codes.specs.Chips.{pick, distance, bad}
-use Rattle.codes.specs.Radio.{Radio, Sound, word, oqpsk, oqpskWord, oqpskWords, turnedWords, turns, turned, oddInverted}
+use Rattle.codes.specs.Radio.{Radio, Sound, word, oqpsk, lowband, oqpskWord, oqpskWords, lowbandWord, lowbandWords, turnedWords, turns, turned, oddInverted}
 use Rattle.codes.specs.Columns.{turnedBits, turnedPair, parted, apartAt, lowKey, highKey, Keyed}
 use Rattle.codes.proofs.Tests.{by-test, both-true, every, each}
 use Rattle.codes.proofs.Chips.{chip-at}
@@ -128,21 +128,36 @@ columned-by r n even odd evens odds many parts t =
         × (eqb (part odd (word r (v + 8)) m) (1 - part odd (word r v) m) ≡ true)
     chip-of v h m l = both-true _ _ (each (chipTest even odd (word r (v + 8)) (word r v)) n (rest v h .1) m l)
 
--- mode 1: the even chips of 32 as two columns of eight, and the odd
-abbrev pub evenAt : ℕ → ℕ
-evenAt m = 4 * (m % 8) + 2 * (m / 8)
+-- the even chips in columns of eight, of so many columns, and the odd
+abbrev pub evenAt : ℕ → ℕ → ℕ
+evenAt columns m = columns * (m % 8) + 2 * (m / 8)
 
-abbrev pub oddAt : ℕ → ℕ
-oddAt m = 4 * (m % 8) + 2 * (m / 8) + 1
+abbrev pub oddAt : ℕ → ℕ → ℕ
+oddAt columns m = columns * (m % 8) + 2 * (m / 8) + 1
 
 -- they are all of a symbol's places
-columns-apart : (f g : ℕ → ℕ) → apart f g 32 ≡ apart (λ m. f (evenAt m)) (λ m. g (evenAt m)) 16 + apart (λ m. f (oddAt m)) (λ m. g (oddAt m)) 16
-unfolding apart
-columns-apart f g = omega arith
+abbrev Halved : ℕ → ℕ → Type 0
+Halved columns n =
+    (f g : ℕ → ℕ)
+    → apart f g (n + n)
+    ≡ apart (λ m. f (evenAt columns m)) (λ m. g (evenAt columns m)) n + apart (λ m. f (oddAt columns m)) (λ m. g (oddAt columns m)) n
 
-pub columned-oqpsk : Columned oqpsk 16 evenAt oddAt (turnedPair 0xE887) (turnedPair 0x1B95)
+four-halved : Halved 4 16
+unfolding apart
+four-halved f g = omega arith
+
+two-halved : Halved 2 8
+unfolding apart
+two-halved f g = omega arith
+
+-- mode 1's words have four columns, mode 2's two
+pub columned-oqpsk : Columned oqpsk 16 (evenAt 4) (oddAt 4) (turnedPair 0xE887) (turnedPair 0x1B95)
 unfolding wordTest chipTest every laid turnedPair turnedBits oqpskWords turnedWords turns turned oddInverted oqpskWord
-columned-oqpsk = columned-by oqpsk 16 evenAt oddAt (turnedPair 0xE887) (turnedPair 0x1B95) refl columns-apart refl
+columned-oqpsk = columned-by oqpsk 16 (evenAt 4) (oddAt 4) (turnedPair 0xE887) (turnedPair 0x1B95) refl four-halved refl
+
+pub columned-lowband : Columned lowband 8 (evenAt 2) (oddAt 2) (turnedPair 0x2E) (turnedPair 0xC6)
+unfolding wordTest chipTest every laid turnedPair turnedBits lowbandWords turnedWords turns turned oddInverted lowbandWord
+columned-lowband = columned-by lowband 8 (evenAt 2) (oddAt 2) (turnedPair 0x2E) (turnedPair 0xC6) refl two-halved refl
 
 -- at the numbers that `keys` holds in a turn
 pub parted-is : (x w pair i n : ℕ) → i < 8 → w ≡ turnedPair pair (i % 8) → n ≡ ones (bitXor x w) → n ≡ parted x pair i
@@ -172,9 +187,13 @@ module _ (half : ℕ) (e o : ℕ → ℕ) where
 pub few : (x : ℕ) → x < 2 ^ 16 → ones x % 32 ≡ ones x
 few x h = omega (arith, ones-le 16 x h)
 
+pub parted-few : (k x pair v : ℕ) → x < 2 ^ k → turnedPair pair v < 2 ^ k → parted x pair v ≤ k
+unfolding parted
+parted-few k x pair v h l = ones-le k _ (xor-lt k x _ h l)
+
 pub parted-le : (x pair v : ℕ) → x < 2 ^ 16 → parted x pair v ≤ 16
-unfolding parted turnedPair turnedBits
-parted-le x pair v h = ones-le 16 _ (xor-lt 16 x _ h (omega arith))
+unfolding turnedPair turnedBits
+parted-le x pair v h = parted-few 16 x pair v h (omega arith)
 
 pub apart-le : (half x y p q : ℕ) → half ≤ 16 → x < 2 ^ 16 → y < 2 ^ 16 → (v : ℕ) → v < 16 → apartAt half (parted x p) (parted y q) v ≤ 32
 unfolding apartAt

@@ -4,23 +4,28 @@
 use mathlib.Core.Path.{_≡_}
 use mathlib.Core.List.{List}
 use Prim.Native.Nat.{ℕ, zero, suc, _+_, _-_, _*_, _/_, _%_, _^_, _≤_, _<_}
-use lib.Bits.{bitXor}
+use lib.Bits.{bitAnd, bitXor}
 use lib.Count.{ones}
-use lib.Dec.{leb, ltb}
+use lib.Dec.{ltb}
 use lib.ListN.{getD}
-use Rattle.codes.specs.declared.Symbol.{Symbol}
-use Rattle.codes.specs.Numbers.{LOST}
 use Rattle.codes.specs.Chips.{pick}
-use Rattle.codes.specs.Symbol.{reads, refused}
 
 -- a number of four columns, a byte each: the first and the third of them beside each other
 abbrev pub firstThird : ℕ → ℕ
 firstThird t = t % 256 + t / 2 ^ 16 % 256 * 256
 
--- four bits of each byte, at every second place: those of the upper four bytes laid between those
--- of the lower four make four columns of eight bits
-abbrev pub folded : ℕ → ℕ
-folded z = z % 2 ^ 32 + z / 2 ^ 32 * 2
+-- the digits of a number from place `at` on laid over those below it, times a number
+abbrev pub folded : ℕ → ℕ → ℕ → ℕ
+folded at by z = z % 2 ^ at + z / 2 ^ at * by
+
+-- of gathered bits, whose chips stand at every second place of a byte: those of the upper four
+-- bytes laid between those of the lower four make four columns of eight bits
+unfoldable pub fourColumns : ℕ → ℕ
+fourColumns bits = folded 32 2 (bitAnd bits 0x5555555555555555)
+
+-- and where they stand at every fourth place, two columns
+unfoldable pub twoColumns : ℕ → ℕ
+twoColumns bits = folded 16 2 (folded 32 4 (bitAnd bits 0x1111111111111111))
 
 -- a column of eight bits turned left
 unfoldable pub turnedBits : ℕ → ℕ → ℕ
@@ -59,11 +64,11 @@ lowKey e o v = (e v + o v) * 32 + v + 1
 abbrev pub highKey : ℕ → (ℕ → ℕ) → (ℕ → ℕ) → ℕ → ℕ
 highKey half e o v = (e v + half - o v) * 32 + v + 9
 
+-- 16 times the distance that a key tells, and the number
+abbrev pub nearOf : ℕ → ℕ
+nearOf m = m / 32 * 16 + (m - 1) % 16
+
 -- the least of s and of the first k values of f
 unfoldable pub least : ℕ → (ℕ → ℕ) → ℕ → ℕ
 least s f zero = s
 least s f (suc k) = pick (ltb (f k) (least s f k)) (f k) (least s f k)
-
--- word v at a distance, where that is within the limit
-unfoldable pub judged : ℕ → ℕ → ℕ → Symbol
-judged limit v d = pick (leb d limit) (reads v d) (refused LOST)

@@ -7,7 +7,7 @@ use lib.Dec.{ltb}
 use Rattle.codes.specs.declared.Symbol.{Symbol}
 use Rattle.codes.specs.Numbers.{BADMODE}
 use Rattle.codes.specs.Chips.{pick, bad}
-use Rattle.codes.specs.Radio.{known, radioOf}
+use Rattle.codes.specs.Radio.{Radio, known, radioOf}
 use Rattle.codes.specs.Symbol.{refused, symbolOf}
 use Rattle.codes.specs.Packed.{from, packed, byteOf}
 
@@ -18,17 +18,10 @@ pub record Layout : Type 0 where
   pub step : ℕ
   pub lift : ℕ
 
--- mode 0: fifteen chips are two eights, which both have chip 7
-abbrev pub bitLayout : Layout
-bitLayout = record { eights = 2; step = 7; lift = 1 }
-
--- mode 1: 32 chips are four eights
-abbrev pub columnLayout : Layout
-columnLayout = record { eights = 4; step = 8; lift = 2 }
-
--- the layout of a mode's radio, in the order of `radios`
-abbrev pub layoutOf : ℕ → Layout
-layoutOf mode = getD (bitLayout ∷ columnLayout ∷ []) mode bitLayout
+-- The layout of a radio's symbols, by their size: 15 chips are two eights, which both have chip 7,
+-- 16 chips two, and 32 four. The eights share the bits of a byte.
+abbrev pub layoutOf : Radio → Layout
+layoutOf r = record { eights = (r .size + 1) / 8; step = r .size / ((r .size + 1) / 8); lift = 8 / ((r .size + 1) / 8) }
 
 -- all bits set, which no gathered chips have
 abbrev pub NOEIGHT : ℕ
@@ -44,10 +37,14 @@ gathered eights step lift part k bits =
     ((bits + packed (from part (k * step)) 8 * 2 ^ (k * lift) % 2 ^ 64) % 2 ^ 64)))
     bits
 
+-- by a layout
+abbrev pub gatheredBy : Layout → List ℕ → ℕ → ℕ → ℕ
+gatheredBy l = gathered (l .eights) (l .step) (l .lift)
+
 -- at a mode; `NOEIGHT` where it has no radio
 unfoldable pub gatheredAt : ℕ → List ℕ → ℕ → ℕ → ℕ
 gatheredAt mode part k bits =
-    pick (known mode) (gathered (layoutOf mode .eights) (layoutOf mode .step) (layoutOf mode .lift) part k bits) NOEIGHT
+    pick (known mode) (gatheredBy (layoutOf (radioOf mode)) part k bits) NOEIGHT
 
 -- the eight that chip i is read from, the first that has it
 abbrev pub eightOf : Layout → ℕ → ℕ
@@ -62,9 +59,18 @@ unfoldable pub listed : (ℕ → ℕ) → ℕ → List ℕ
 listed f zero = []
 listed f (suc n) = f 0 ∷ listed (λ i. f (suc i)) n
 
+-- the chips of a symbol that the bits hold
+abbrev pub chipsIn : Radio → ℕ → List ℕ
+chipsIn r bits = listed (chipIn (layoutOf r) bits) (r .size)
+
+-- a symbol's chips all gathered, as the loops do it
+unfoldable pub gatheredAll : Radio → List ℕ → ℕ
+gatheredAll r part =
+    gatheredBy (layoutOf r) part 3 (gatheredBy (layoutOf r) part 2 (gatheredBy (layoutOf r) part 1 (gatheredBy (layoutOf r) part 0 0)))
+
 -- the symbol of the chips that the bits hold
 unfoldable pub symbolIn : ℕ → ℕ → Symbol
 symbolIn mode bits =
     pick (known mode)
-    (symbolOf (radioOf mode) (listed (chipIn (layoutOf mode) bits) (radioOf mode .size)))
+    (symbolOf (radioOf mode) (chipsIn (radioOf mode) bits))
     (refused BADMODE)

@@ -6,7 +6,7 @@ use Prim.Native.Nat.{ℕ}
 abbrev pub DONE : ℕ
 DONE = 0
 
--- mode is neither 0 nor 1
+-- mode above 2
 abbrev pub BADMODE : ℕ
 BADMODE = 1
 

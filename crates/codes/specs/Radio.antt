@@ -1,5 +1,5 @@
--- The two radios (document 01, "The two radios"), each a row of one list. Everything below
--- `radioOf` takes the radio, so a third radio is a third row.
+-- The radios (the scope, "The three radios"), each a row of one list. Everything below `radioOf`
+-- takes the radio, so another radio is another row.
 use mathlib.Core.Path.{_≡_}
 use Prim.Native.Nat.{ℕ, zero, suc, _-_, _*_, _/_, _^_, _≤_, _<_}
 use mathlib.Core.Bool.{Bool, true, false}
@@ -55,6 +55,14 @@ turnedWords k w = turns 8 k w ++ map oddInverted (turns 8 k w)
 unfoldable pub oqpskWords : List (List ℕ)
 oqpskWords = turnedWords 4 oqpskWord
 
+-- Mode 2. Word 0 is 0011111000100101, words 1 to 7 each turn the one before right by two chips,
+-- words 8 to 15 invert the odd chips of 0 to 7.
+unfoldable pub lowbandWord : List ℕ
+lowbandWord = 0 ∷ 0 ∷ 1 ∷ 1 ∷ 1 ∷ 1 ∷ 1 ∷ 0 ∷ 0 ∷ 0 ∷ 1 ∷ 0 ∷ 0 ∷ 1 ∷ 0 ∷ 1 ∷ []
+
+unfoldable pub lowbandWords : List (List ℕ)
+lowbandWords = turnedWords 2 lowbandWord
+
 -- 868/915 BPSK
 abbrev pub bpsk : Radio
 bpsk = record { size = 15; bits = 1; limit = 6; chained = true; words = bpskWords }
@@ -63,9 +71,13 @@ bpsk = record { size = 15; bits = 1; limit = 6; chained = true; words = bpskWord
 abbrev pub oqpsk : Radio
 oqpsk = record { size = 32; bits = 4; limit = 5; chained = false; words = oqpskWords }
 
+-- 868/915 O-QPSK
+abbrev pub lowband : Radio
+lowband = record { size = 16; bits = 4; limit = 2; chained = false; words = lowbandWords }
+
 -- the row of a mode is its radio
 abbrev pub radios : List Radio
-radios = bpsk ∷ oqpsk ∷ []
+radios = bpsk ∷ oqpsk ∷ lowband ∷ []
 
 -- whether a mode number has a radio; where it has none the number given back is 1
 abbrev pub known : ℕ → Bool

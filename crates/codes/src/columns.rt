@@ -1,64 +1,80 @@
-// Mode 1, and any radio whose words are eight turns of word 0 and the same eight with their odd
-// chips inverted. Chips are laid in columns of eight bits: bit m of column c is chip 4m + c. To
-// turn a word right by four chips is to turn each of its columns left by one bit; to invert its odd
-// chips is to invert columns 1 and 3. So words v and v + 8 differ from a symbol in as many even
-// chips, and together in all odd ones: eight pairs of counts give sixteen distances. No word is
-// kept but word 0, and nothing leaves the loops, so the back end looks at eight words at a time
+// Radios whose words are eight turns of word 0 and the same eight with their odd chips inverted.
+// Chips are laid in columns of eight bits: bit m of column c is chip nm + c, of n columns. To turn a
+// word right by n chips is to turn each of its columns left by one bit; to invert its odd chips is
+// to invert the odd columns. So words v and v + 8 differ from a symbol in as many even chips, and
+// together in all odd ones: eight pairs of counts give sixteen distances. No word is kept but word
+// 0, and nothing leaves the loops, so the back end looks at eight words at a time
 // (proofs/Words.antt, proofs/Leasts.antt).
 ghost use mathlib.Core.Path.{_≡_};
 ghost use Prim.Native.Nat.{_≤_, _<_, _^_};
 ghost use lib.ListN.{getD};
 ghost use lib.Count.{ones};
-ghost use Rattle.codes.specs.Gathered.{symbolIn};
-ghost use Rattle.codes.specs.Columns.{firstThird, folded, turnedBits, turnedPair, parted, apartAt, Half, keyOf, Keyed, least};
+ghost use Rattle.codes.specs.Near.{nearestIn};
+ghost use Rattle.codes.specs.Columns.{firstThird, fourColumns, twoColumns, turnedBits, turnedPair, parted, apartAt, Half, Keyed, least, nearOf};
 
-// Word 0 by columns, a byte a column.
-pub const WORD: u32 = 0x1BE89587;
-
-// The symbol of gathered bits: every second bit of a byte is a chip's, and the mask leaves nothing
-// else. The nearest word has the least key, the lowest number on a tie.
-pub fn read_word(bits: u64) -> crate::Symbol
-    ensures { λ r. ⌜ r ≡ symbolIn 1 bits ⌝ }
+// Mode 1: its 32 chips are four columns. A function for each radio, so that the words' columns are
+// constants in the loop.
+pub fn nearest_of_four(bits: u64) -> u32
+    ensures { λ r. ⌜ r ≡ nearestIn 1 bits ⌝ }
 {
-    let t = fold(bits & 0x5555555555555555);
-    let word = WORD as u64;
-    let key = least_key(
+    let t = four(bits);
+    let w = four(crate::OQPSK.word);
+    let k = keys(
         first_third(t),
         first_third(t / 256),
-        first_third(word),
-        first_third(word / 256),
+        first_third(w),
+        first_third(w / 256),
         16,
     );
-    crate::judge(5, (key - 1) % 16, key / 32)
+    near(least_of(&k))
 }
 
-// The upper half's bits laid between the lower half's: four columns.
-fn fold(z: u64) -> u64
-    ensures { λ r. ⌜ r ≡ folded z ⌝ }
+// Mode 2: its 16 chips are two columns.
+pub fn nearest_of_two(bits: u64) -> u32
+    ensures { λ r. ⌜ r ≡ nearestIn 2 bits ⌝ }
 {
+    let t = two(bits);
+    let w = two(crate::LOWBAND.word);
+    let k = keys(
+        first_third(t),
+        first_third(t / 256),
+        first_third(w),
+        first_third(w / 256),
+        8,
+    );
+    near(least_of(&k))
+}
+
+// The columns of four eights. Every second bit of a byte is a chip's, and the mask leaves nothing
+// else; the upper four bytes' bits go between the lower four's.
+fn four(bits: u64) -> u64
+    ensures { λ r. ⌜ r ≡ fourColumns bits ⌝ }
+{
+    let z = bits & 0x5555555555555555;
     z % 0x100000000 + z / 0x100000000 * 2
 }
 
+// The columns of two eights. Every fourth bit of a byte is a chip's; pairs of bytes are laid over
+// each other, each a bit higher than the pair before.
+fn two(bits: u64) -> u64
+    ensures { λ r. ⌜ r ≡ twoColumns bits ⌝ }
+{
+    let z = bits & 0x1111111111111111;
+    let y = z % 0x100000000 + z / 0x100000000 * 4;
+    y % 0x10000 + y / 0x10000 * 2
+}
+
 // The first and the third of four columns beside each other: the even chips, or, of columns moved
-// down by one, the odd.
+// down by one, the odd. Of two columns, the first.
 fn first_third(t: u64) -> u16
     ensures { λ r. ⌜ r ≡ firstThird t ⌝ }
 {
     (t % 256 + t / 0x10000 % 256 * 256) as u16
 }
 
-// The least key of the sixteen words, from the even and the odd chips of the symbol and of word 0;
-// `half` is how many odd chips a word has.
-fn least_key(evens: u16, odds: u16, even: u16, odd: u16, half: u16) -> u32
-    requires { ⌜ (half ≤ 16) × Half half (parted odds odd) ⌝ }
-    ensures { λ r. ⌜ r ≡ least 0xFFFF (keyOf (apartAt half (parted evens even) (parted odds odd))) 16 ⌝ }
-{
-    let k = keys(evens, odds, even, odd, half);
-    wide(least_of(&k))
-}
-
-// Keys of the words: the distance above the word's number and one. (Of the number alone the first
-// would be 0, and the back end would leave that word out of its vectors.)
+// Keys of the words, from the even and the odd chips of the symbol and of word 0: the distance above
+// the word's number and one. (Of the number alone the first would be 0, and the back end would leave
+// that word out of its vectors.) `half` is how many odd chips a word has.
 fn keys(evens: u16, odds: u16, even: u16, odd: u16, half: u16) -> [u16; 16]
     requires { ⌜ (half ≤ 16) × Half half (parted odds odd) ⌝ }
     ensures { λ r. ⌜ Keyed (apartAt half (parted evens even) (parted odds odd)) r ⌝ }
@@ -88,6 +104,15 @@ fn least_of(k: &[u16; 16]) -> u16
         v += 1;
     }
     m
+}
+
+// A key's distance and number, as `nearest` gives them.
+fn near(key: u16) -> u32
+    requires { ⌜ 1 ≤ key ⌝ }
+    ensures { λ r. ⌜ r ≡ nearOf key ⌝ }
+{
+    let m = wide(key);
+    m / 32 * 16 + (m - 1) % 16
 }
 
 // Two columns of a word, turned left by so many bits.

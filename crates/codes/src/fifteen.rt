@@ -1,38 +1,31 @@
-// Mode 0: fifteen chips gathered as two eights, chips 0 to 7 in the lowest bits of the bytes and 7
-// to 14 in the bits above them. Eight bytes of 0 or 1 are the digits of one number to the base 256:
-// exclusive or works on each digit apart, and digits of at most 2 carry nothing when they are
-// summed (proofs/Packed.antt).
+// Mode 0: fifteen chips gathered as two eights, chips 0 to 7 in bit 0 of the bytes and 7 to 14 in
+// bit 4. Exclusive or with word 0, gathered likewise, leaves a bit for each chip that differs, and
+// digits of at most 2 carry nothing when they are summed (proofs/Packed.antt, proofs/Bits.antt).
 ghost use mathlib.Core.Path.{_≡_};
 ghost use Prim.Native.Nat.{_≤_};
 ghost use Rattle.codes.specs.Chips.{distance};
 ghost use Rattle.codes.specs.Radio.{word, bpsk};
 ghost use Rattle.codes.specs.Packed.{digitSum};
-ghost use Rattle.codes.specs.Gathered.{bitLayout, chipIn, listed, symbolIn};
+ghost use Rattle.codes.specs.Gathered.{layoutOf, chipIn, listed};
+ghost use Rattle.codes.specs.Near.{nearestIn};
 
-// The word for 0, a chip a byte: chips 0 to 7, and, above a byte of 0, chips 8 to 14.
-pub const FRONT: u64 = 0x0100010001010101;
-
-pub const BACK: u64 = 0x0000000100000100;
-
-// The symbol of gathered bits. The two words differ in all fifteen chips, so the distance from the
-// word for 1 is what is left of fifteen, and the nearer word is that for 0 up to seven. Four bits
-// inverted are what is left of fifteen; a branch on which word it is would be a guess at every
-// symbol.
-pub fn read_bit(bits: u64) -> crate::Symbol
-    ensures { λ r. ⌜ r ≡ symbolIn 0 bits ⌝ }
+// The two words differ in all fifteen chips, so the distance from the word for 1 is what is left of
+// fifteen, and the nearer word is that for 0 up to seven. Four bits inverted are what is left of
+// fifteen; a branch on which word it is would be a guess at every symbol.
+pub fn nearest(bits: u64) -> u32
+    ensures { λ r. ⌜ r ≡ nearestIn 0 bits ⌝ }
 {
     let d = apart(bits);
     let value = d / 8;
-    crate::judge(6, value, d ^ (value * 15))
+    (d ^ (value * 15)) * 16 + value
 }
 
 // The distance from the word for 0. Chip 7 is in both eights, and left out of the second.
 fn apart(bits: u64) -> u32
-    ensures { λ r. ⌜ (r ≡ distance (listed (chipIn bitLayout bits) 15) (word bpsk 0)) × (r ≤ 15) ⌝ }
+    ensures { λ r. ⌜ (r ≡ distance (listed (chipIn (layoutOf bpsk) bits) 15) (word bpsk 0)) × (r ≤ 15) ⌝ }
 {
-    let front = bits & 0x0101010101010101;
-    let back = (bits & 0x0202020202020200) / 2;
-    digit_sum((front ^ FRONT) + (back ^ BACK))
+    let wrong = bits ^ crate::BPSK.word;
+    digit_sum((wrong & 0x0101010101010101) + (wrong & 0x1010101010101000) / 16)
 }
 
 // The sum of eight digits, where it is below 256. The halves are added first, so that the product

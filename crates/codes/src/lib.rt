@@ -1,18 +1,19 @@
-// The radios' numbers, a symbol's chips gathered as bits, and the symbol that the bits say. Whoever
-// reads gathers a symbol's chips eight at a time, each eight tested as it is gathered, and hands
-// the bits to `matched`. That at most one word lies within the limit is a law over word length,
-// number of words and limit (proofs/Unique.antt), so the nearest word, where it is within the
-// limit, is that one (proofs/Nearest.antt); how far the words are is counted on the bits
-// (fifteen.rt, columns.rt). That the symbol of the bits is that of the chips is shown in
-// proofs/Gathering.antt.
+// The radios' numbers, a symbol's chips gathered as bits, and the symbol that the bits say. What
+// radios differ in stands in rows, one for each, and a mode number is looked up there once; all
+// else goes by the row's numbers. Whoever reads gathers a symbol's chips eight at a time, each
+// eight tested as it is gathered, asks `nearest` for the nearest word and has `judge` say whether
+// it is near enough. That at most one word lies within the limit is a law over word length, number
+// of words and limit (proofs/Unique.antt), so the nearest word, where it is within the limit, is
+// that one (proofs/Nearest.antt); how far the words are is counted on the bits (fifteen.rt,
+// columns.rt). That the symbol of the bits is that of the chips is shown in proofs/Gathering.antt.
 ghost use mathlib.Core.Path.{_≡_};
 ghost use Prim.Native.Nat.{_+_, _≤_};
 ghost use lib.ListN.{length};
 ghost use Rattle.codes.specs.Symbol.{refused};
-ghost use Rattle.codes.specs.Sizes.{sizeAt, limitAt};
 ghost use Rattle.codes.specs.Packed.{from, packed};
-ghost use Rattle.codes.specs.Gathered.{gathered, gatheredAt, symbolIn};
-ghost use Rattle.codes.specs.Columns.{judged};
+ghost use Rattle.codes.specs.Gathered.{gathered, gatheredAt};
+ghost use Rattle.codes.specs.Phy.{phyAt};
+ghost use Rattle.codes.specs.Near.{nearestIn, judgedAt};
 
 mod columns;
 mod fifteen;
@@ -66,46 +67,108 @@ pub struct Symbol {
     pub distance: u32,
 }
 
-// Chips in a symbol of the mode's radio; 0 for a mode that has no radio.
-pub fn size_of(mode: u32) -> usize
-    ensures { λ r. ⌜ r ≡ sizeAt mode ⌝ }
-{
-    if mode == 0 {
-        return 15;
-    }
-    if mode == 1 {
-        return 32;
-    }
-    0
+// A radio's numbers, by value: what everything below `phy_of` goes by.
+pub struct Phy {
+    // chips in a symbol; 0 where there is no radio
+    pub size: usize,
+    // symbols of an octet
+    pub per: usize,
+    // values of a symbol, one for each word
+    pub values: usize,
+    // the accepted distance
+    pub limit: u32,
+    // whether each bit is added to the one encoded before it
+    pub chained: bool,
+    // the eights that a symbol is gathered in, chips from the start of one to that of the next, and
+    // by how many bits each is lifted above the one before
+    pub eights: usize,
+    pub step: usize,
+    pub lift: usize,
+    // word 0, gathered: every other word is worked out of it
+    pub word: u64,
 }
 
-// The accepted distance of the mode's radio; 0 for a mode that has no radio.
-pub fn limit_of(mode: u32) -> u32
-    ensures { λ r. ⌜ r ≡ limitAt mode ⌝ }
+// Mode 0, 868/915 BPSK. Fifteen chips are two eights, which both have chip 7.
+pub const BPSK: Phy = Phy {
+    size: 15,
+    per: 8,
+    values: 2,
+    limit: 6,
+    chained: true,
+    eights: 2,
+    step: 7,
+    lift: 4,
+    word: 0x0100011001011111,
+};
+
+// Mode 1, 2450 O-QPSK.
+pub const OQPSK: Phy = Phy {
+    size: 32,
+    per: 2,
+    values: 16,
+    limit: 5,
+    chained: false,
+    eights: 4,
+    step: 8,
+    lift: 2,
+    word: 0x0554404111401505,
+};
+
+// Mode 2, 868/915 O-QPSK.
+pub const LOWBAND: Phy = Phy {
+    size: 16,
+    per: 2,
+    values: 16,
+    limit: 2,
+    chained: false,
+    eights: 2,
+    step: 8,
+    lift: 4,
+    word: 0x1001110101110000,
+};
+
+// What a mode without a radio has.
+pub const NORADIO: Phy = Phy {
+    size: 0,
+    per: 0,
+    values: 0,
+    limit: 0,
+    chained: false,
+    eights: 0,
+    step: 0,
+    lift: 0,
+    word: 0,
+};
+
+// The row of a mode. No other function asks which radio a mode is, but for those that hand a
+// constant mode to a loop that needs one.
+pub fn phy_of(mode: u32) -> Phy
+    ensures { λ r. ⌜ r ≡ phyAt mode ⌝ }
 {
     if mode == 0 {
-        return 6;
+        return BPSK;
     }
     if mode == 1 {
-        return 5;
+        return OQPSK;
     }
-    0
+    if mode == 2 {
+        return LOWBAND;
+    }
+    NORADIO
 }
 
 // Tests eight k of a symbol's chips, and adds it to the bits gathered before it; `NOEIGHT` where it
-// runs out of chips, one of its bytes is no chip, or the mode has no radio. A mode 0 symbol is two
-// eights that both have chip 7; an eight that a symbol doesn't have leaves the bits as they are, so
-// that a loop over all four serves every mode, and has a constant length.
+// runs out of chips, one of its bytes is no chip, or the mode has no radio. An eight that a symbol
+// doesn't have leaves the bits as they are, so that a loop over four serves every mode, and has a
+// constant length.
 pub fn gather(mode: u32, part: &[u8], k: usize, bits: u64) -> u64
     ensures { λ r. ⌜ r ≡ gatheredAt mode (now (part .entry)) k bits ⌝ }
 {
-    if mode == 0 {
-        return gather_by(2, 7, 1, part, k, bits);
+    let phy = phy_of(mode);
+    if phy.size == 0 {
+        return NOEIGHT;
     }
-    if mode == 1 {
-        return gather_by(4, 8, 2, part, k, bits);
-    }
-    NOEIGHT
+    gather_by(phy.eights, phy.step, phy.lift, part, k, bits)
 }
 
 // The same by the layout's numbers: eights, chips from one to the next, and bits. A sum, since the
@@ -150,28 +213,37 @@ fn wide(byte: u8) -> u64
     byte as u64
 }
 
-// The symbol that gathered bits say: 1 and 6 in that order.
-pub fn matched(mode: u32, bits: u64) -> Symbol
-    ensures { λ r. ⌜ r ≡ symbolIn mode bits ⌝ }
+// The word nearest to the chips that gathered bits hold, the lowest number on a tie: 16 times its
+// distance and its number, in one value, which goes from function to function without a store. 0
+// for a mode that has no radio.
+pub fn nearest(mode: u32, bits: u64) -> u32
+    ensures { λ r. ⌜ r ≡ nearestIn mode bits ⌝ }
 {
     if mode == 0 {
-        return fifteen::read_bit(bits);
+        return fifteen::nearest(bits);
     }
     if mode == 1 {
-        return columns::read_word(bits);
+        return columns::nearest_of_four(bits);
     }
-    refusal(BADMODE)
+    if mode == 2 {
+        return columns::nearest_of_two(bits);
+    }
+    0
 }
 
-// A word's number at its distance, where that is within the limit.
-fn judge(limit: u32, value: u32, distance: u32) -> Symbol
-    ensures { λ r. ⌜ r ≡ judged limit value distance ⌝ }
+// The symbol that the nearest word says, where it is within the limit: 1 and 6 in that order.
+pub fn judge(mode: u32, near: u32) -> Symbol
+    ensures { λ r. ⌜ r ≡ judgedAt mode near ⌝ }
 {
-    if distance <= limit {
+    let phy = phy_of(mode);
+    if phy.size == 0 {
+        return refusal(BADMODE);
+    }
+    if near / 16 <= phy.limit {
         return Symbol {
             number: DONE,
-            value,
-            distance,
+            value: near % 16,
+            distance: near / 16,
         };
     }
     refusal(LOST)

@@ -14,7 +14,6 @@ use borrow.Author.Tests.{eqb-false, ne-eqb, ltb-true, ltb-false, leb-true, le-le
 use Rattle.codes.specs.Numbers.{DONE, RUNOUT, ENDED, NOTENDED, MORE, FORGED}
 use Rattle.codes.specs.Radio.{known, radioOf}
 use Rattle.codes.specs.Symbol.{symbolOf}
-use Rattle.codes.specs.Sizes.{limitAt}
 use Rattle.codes.proofs.Tests.{by-test, not-both}
 use Rattle.frame.specs.Frame.{perOctet, symbols}
 use Rattle.frame.proofs.Count.{symbols-long}
@@ -62,9 +61,7 @@ module _ (c : Receiver) (g : (c .ended ≡ MORE) ⊎ (c .ended ≡ DONE)) (misfi
   -- where the other tests pass, the test of the number of symbols decides
   module _ (decides : forged c ≡ number-of-symbols c (perOctet (radioOf (c .mode))) → (forged c ≡ true) ↔ misfit (total c)) where
     last : known (c .mode) ≡ true → c .length ≤ 127 → c .count ≤ radioOf (c .mode) .limit * c .taken → (forged c ≡ true) ↔ misfit (total c)
-    last k s b =
-        let e : radioOf (c .mode) .limit ≡ limitAt (c .mode) = rw k in
-        decides (last-test c g k s (radioOf (c .mode) .limit) e b (perOctet (radioOf (c .mode))) refl)
+    last k s b = decides (last-test c g k s (radioOf (c .mode) .limit) refl b (perOctet (radioOf (c .mode))) refl)
 
     forged-faulty : forged c ≡ true → Faulty misfit c
     forged-faulty t =
@@ -79,9 +76,7 @@ module _ (c : Receiver) (g : (c .ended ≡ MORE) ⊎ (c .ended ≡ DONE)) (misfi
         by-test (known (c .mode))
         (λ k. by-test (ltb 127 (c .length)) (λ l. sym (forged-long c g k (ltb-true _ _ l)))
         (λ l. by-test (ltb (radioOf (c .mode) .limit * c .taken) (c .count))
-        (λ b.
-        let e : radioOf (c .mode) .limit ≡ limitAt (c .mode) = rw k in
-        sym (forged-count c g k (ltb-false _ _ l) (radioOf (c .mode) .limit) e (ltb-true _ _ b)))
+        (λ b. sym (forged-count c g k (ltb-false _ _ l) (radioOf (c .mode) .limit) refl (ltb-true _ _ b)))
         (λ b. go k (ltb-false _ _ l) (ltb-false _ _ b) u)))
         (λ k. sym (forged-no-radio c g k))
       where

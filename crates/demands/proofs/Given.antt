@@ -19,7 +19,7 @@ use Rattle.reader.specs.declared.Hand.{Hand}
 use Rattle.reader.specs.Order.{Answer, refused, done, both, ends, rules}
 use Rattle.reader.specs.Read.{told}
 use Rattle.reader.specs.Taking.{stopped, rawFrom, shifted, lengthAfter, moved, advanced, followed, keptAt}
-use Rattle.reader.proofs.Steps.{stops}
+use Rattle.reader.proofs.Steps.{followed-stops, kept-stops}
 use Rattle.receiver.specs.declared.Receiver.{Receiver}
 use Rattle.receiver.specs.declared.Step.{Step}
 use Rattle.receiver.specs.Record.{step, startOf, isOpen, endedWell, forged, handOf, held, tookSymbol, pushOf, endedWith, finishOf, roomFor, takes, takeOf}
@@ -175,25 +175,6 @@ take-numbers c buffer = takes-ways c (length buffer) P (λ _. inl refl) (inl ref
 pub take-refused : (c : Receiver) (buffer : List ℕ) → (takeOf c buffer .answer .number ≡ DONE → ⊥)
     → (takeOf c buffer .answer .n ≡ 0) × (takeOf c buffer .answer .count ≡ 0) × (takeOf c buffer .buffer ≡ buffer)
 take-refused c buffer = leaves (takes c (length buffer)) buffer
-
--- a hand that a symbol stops stays as it was, but for the number
-followed-stops : (mode : ℕ) (h : Hand) (x : Symbol) → (followed mode h x .number ≡ MORE → ⊥)
-    → (followed mode h x .number ≡ DONE → ⊥) → followed mode h x ≡ stopped (followed mode h x .number) h
-unfolding followed
-followed-stops mode h x =
-    by-pick P (known mode) _ _
-    (λ _. by-pick P (eqb (x .number) DONE) (advanced (radioOf mode) h (x .value) (x .distance)) (stopped (x .number) h)
-    (λ _. advanced-ways (radioOf mode) h (x .value) (x .distance) P (λ t m d. absurd (⊎-elim m d t)) (λ m d. refl))
-    (λ _ m d. refl))
-    (λ _ m d. refl)
-  where
-    P : Hand → Type 0
-    P g = (g .number ≡ MORE → ⊥) → (g .number ≡ DONE → ⊥) → g ≡ stopped (g .number) h
-
--- and so do the octets
-kept-stops : (mode : ℕ) (h : Hand) (octets : List ℕ) → (h .number ≡ MORE → ⊥) → (h .number ≡ DONE → ⊥) → keptAt mode h octets ≡ octets
-unfolding keptAt
-kept-stops mode h octets m d = by-pick (λ (l : List ℕ). l ≡ octets) (known mode) _ _ (λ _. stops (h .number) _ octets m d) (λ _. refl)
 
 -- A refusal of push's symbol leaves the record as it was, but for the number that ends it.
 pub push-refused : (c : Receiver) (part : List ℕ) → among (pushOf c part .number) (NOCHIP ∷ LOST ∷ PREAMBLE ∷ BADSTART ∷ RESERVED ∷ []) ≡ true

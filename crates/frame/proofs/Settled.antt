@@ -10,13 +10,8 @@ use denote.Triple.Clauses.{AtExit}
 use borrow.Fn.Kinds.{Dens, resT, endedOf}
 use Rattle.codes.proofs.Settled.{settled, Settles, AsksNothing}
 use Rattle.frame.specs.Outcome.{Outcome, outcome}
-use Rattle.frame.proofs.per_octet.Kinds as per-octet-kinds
-use Rattle.frame.proofs.per_octet.Reads as per-octet-promise
 use Rattle.frame.proofs.write.Kinds as write-kinds
 use Rattle.frame.proofs.write.Reads as write-promise
-
-pub per-octet-settled : Settles 0 per-octet-kinds.ps per-octet-kinds.r per-octet-promise.Post
-per-octet-settled κs a p q s t = settled p q
 
 -- an outcome is an answer and a buffer
 pub same-outcome : {A : Type 0} (p q : A) (b c : List ℕ) → outcome p b ≡ outcome q c → (p ≡ q) × (b ≡ c)
@@ -26,9 +21,6 @@ same-outcome {A} p q b c e = (ap (λ (o : Outcome A). o .answer) e, ap (λ (o : 
 pub write-settled : (κs : Lfts 2) (a : Dens κs write-kinds.ps) (p q : resT write-kinds.r κs .Denot) (s t : AtExit (endedOf 2 write-kinds.ps write-kinds.r) κs)
     → write-promise.Post κs a p s → write-promise.Post κs a q t → (p ≡ q) × (now (s .1 .1 .0) ≡ now (t .1 .1 .0))
 write-settled κs a p q s t e f = same-outcome p q _ _ (settled _ _ e f)
-
-pub per-octet-asks-nothing : AsksNothing 0 per-octet-kinds.ps per-octet-promise.Pre
-per-octet-asks-nothing κs a = tt
 
 pub write-asks-nothing : AsksNothing 2 write-kinds.ps write-promise.Pre
 write-asks-nothing κs a = tt

@@ -1,10 +1,10 @@
--- A report's frame: octets, symbols, chips (document 01, "The two radios" and "The frame"), for
+-- A report's frame: octets, symbols, chips (the scope, "The three radios" and "The frame"), for
 -- any radio.
 use Prim.Native.Nat.{ℕ, zero, suc, _+_, _/_, _%_, _^_}
 use mathlib.Core.List.{List, [], _∷_, _++_}
 use lib.ListN.{length}
 use Rattle.codes.specs.Chips.{pick}
-use Rattle.codes.specs.Radio.{Radio, known, radioOf, word}
+use Rattle.codes.specs.Radio.{Radio, word}
 
 -- The start octet's bits are 1 1 1 0 0 1 0 1 with the lowest bit first, so its value is 0xA7.
 abbrev pub startOctet : ℕ
@@ -18,10 +18,6 @@ octets report = 0 ∷ 0 ∷ 0 ∷ 0 ∷ startOctet ∷ length report ∷ report
 -- symbols of an octet
 abbrev pub perOctet : Radio → ℕ
 perOctet r = 8 / r .bits
-
--- those of a mode's radio; 0 where it has none
-abbrev pub perAt : ℕ → ℕ
-perAt mode = pick (known mode) (perOctet (radioOf mode)) 0
 
 -- the k lowest digits of x, lowest first
 unfoldable pub digits : ℕ → ℕ → ℕ → List ℕ

@@ -6,10 +6,11 @@ ghost use mathlib.Core.Bool.{true};
 ghost use Prim.Native.Nat.{_+_, _*_, _/_, _%_, _^_, _≤_, _<_};
 ghost use lib.ListN.{length, getD, drop};
 ghost use lib.Seq.{paste};
+ghost use Rattle.codes.specs.Chips.{pick};
 ghost use Rattle.codes.specs.Radio.{known, radioOf, word};
 ghost use Rattle.codes.specs.Strip.{stripAt};
 ghost use Rattle.frame.specs.Outcome.{outcome};
-ghost use Rattle.frame.specs.Frame.{octets, perAt, rawOf, sent, encode, symbols, chipsOf};
+ghost use Rattle.frame.specs.Frame.{octets, rawOf, encode, symbols, chipsOf};
 ghost use Rattle.frame.specs.Write.{refused, written};
 ghost use Rattle.frame.specs.Putting.{over, lastSent, octetChips};
 
@@ -28,7 +29,7 @@ pub struct Written {
 pub fn write(mode: u32, report: &[u8], chips: &mut [u8]) -> Written
     ensures { λ r. ⌜ outcome r (now (chips .exit)) ≡ written mode (now (report .entry)) (now (chips .entry)) ⌝ }
 {
-    if codes::size_of(mode) == 0 {
+    if codes::phy_of(mode).size == 0 {
         return refusal(codes::BADMODE);
     }
     if 127 < report.len() {
@@ -52,8 +53,8 @@ fn refusal(number: u32) -> Written
     Written { number, chips: 0 }
 }
 
-// The frame over the front of the buffer. Each mode's strip of words is made by itself, of
-// constants: made in one place for either mode, it would be put together chip by chip.
+// The frame over the front of the buffer. A call for each radio, with its mode as a constant: the
+// back end then makes the strip of words at compile time, and each radio's loops by themselves.
 fn put_frame(mode: u32, report: &[u8], out: &mut [u8])
     requires { ⌜ (known mode ≡ true) × (length (now report) ≤ 127) × ((6 + length (now report)) * octetChips (radioOf mode) ≤ length (now out)) ⌝ }
     ensures { λ _. ⌜ now (out .exit) ≡ over (now (out .entry)) 0 (chipsOf (radioOf mode) (symbols (radioOf mode) (now (report .entry)))) ⌝ }
@@ -61,9 +62,12 @@ fn put_frame(mode: u32, report: &[u8], out: &mut [u8])
     if mode == 0 {
         let words = codes::strip(0);
         put_octets(0, &words, report, out);
-    } else {
+    } else if mode == 1 {
         let words = codes::strip(1);
         put_octets(1, &words, report, out);
+    } else {
+        let words = codes::strip(2);
+        put_octets(2, &words, report, out);
     }
 }
 
@@ -75,7 +79,7 @@ fn put_octets(mode: u32, words: &[u8; 128], report: &[u8], out: &mut [u8])
 {
     let size = octet_chips(mode);
     let count = 6 + report.len();
-    let mut last: u8 = 0;
+    let mut last: usize = 0;
     let mut at: usize = 0;
     let mut j: usize = 0;
     while j < count {
@@ -86,38 +90,54 @@ fn put_octets(mode: u32, words: &[u8; 128], report: &[u8], out: &mut [u8])
 }
 
 // Octet j of the frame; the report's octets, which are most of them, by the first test.
-fn octet_at(report: &[u8], j: usize) -> u8
+fn octet_at(report: &[u8], j: usize) -> usize
     requires { ⌜ (length (now report) ≤ 127) × (j < 6 + length (now report)) ⌝ }
     ensures { λ r. ⌜ r ≡ getD (octets (now (report .entry))) j 0 ⌝ }
 {
     if 5 < j {
-        return report[j - 6];
+        return wide(report[j - 6]);
     }
     if j == 5 {
-        return report.len() as u8;
+        return report.len();
     }
     if j == 4 {
-        return START;
+        return START as usize;
     }
     0
 }
 
+// A function of its own, so that a caller need not show that a byte fits.
+fn wide(byte: u8) -> usize
+    ensures { λ r. ⌜ r ≡ byte ⌝ }
+{
+    byte as usize
+}
+
 // The symbols of one octet, its lowest bits first; the last of them comes back.
-fn put_octet(mode: u32, words: &[u8; 128], last: u8, octet: u8, out: &mut [u8], at: usize) -> u8
+fn put_octet(
+    mode: u32,
+    words: &[u8; 128],
+    last: usize,
+    octet: usize,
+    out: &mut [u8],
+    at: usize,
+) -> usize
     requires { ⌜ (known mode ≡ true) × (now words ≡ stripAt mode) × (last < 2 ^ radioOf mode .bits) × (at + octetChips (radioOf mode) ≤ length (now out)) ⌝ }
     ensures { λ r. ⌜ r ≡ lastSent (radioOf mode) last (rawOf (radioOf mode) octet) ⌝ }
     ensures { λ _. ⌜ now (out .exit) ≡ over (now (out .entry)) at (chipsOf (radioOf mode) (encode (radioOf mode) last (rawOf (radioOf mode) octet))) ⌝ }
 {
-    let size = codes::size_of(mode);
-    let count = per_octet(mode);
+    let phy = codes::phy_of(mode);
+    let size = phy.size;
+    let count = phy.per;
+    let values = phy.values;
     let mut v = last;
     let mut rest = octet;
     let mut p = at;
     let mut i: usize = 0;
     while i < count {
-        v = sent_symbol(mode, v, low_bits(mode, rest));
+        v = sent_symbol(phy.chained, v, rest % values);
         put_symbol(mode, words, v, out, p);
-        rest = high_bits(mode, rest);
+        rest = rest / values;
         p += size;
         i += 1;
     }
@@ -126,20 +146,14 @@ fn put_octet(mode: u32, words: &[u8; 128], last: u8, octet: u8, out: &mut [u8], 
 
 // A symbol's word. All its chips are read before the first is stored, so that the back end, which
 // may not know that strip and buffer are apart, moves many at a time.
-fn put_symbol(mode: u32, words: &[u8; 128], v: u8, out: &mut [u8], at: usize)
+fn put_symbol(mode: u32, words: &[u8; 128], v: usize, out: &mut [u8], at: usize)
     requires { ⌜ (known mode ≡ true) × (now words ≡ stripAt mode) × (v < length (radioOf mode .words)) × (at + radioOf mode .size ≤ length (now out)) ⌝ }
     ensures { λ _. ⌜ now (out .exit) ≡ over (now (out .entry)) at (word (radioOf mode) v) ⌝ }
 {
-    let row = codes::row_of(mode, v);
-    if mode == 0 {
-        let mut word = [0u8; 15];
-        put_word(words, row, 15, &mut word, 0);
-        put_word(&word, 0, 15, out, at);
-    } else {
-        let mut word = [0u8; 32];
-        put_word(words, row, 32, &mut word, 0);
-        put_word(&word, 0, 32, out, at);
-    }
+    let size = codes::phy_of(mode).size;
+    let mut word = [0u8; 32];
+    put_word(words, codes::row_of(mode, v), size, &mut word, 0);
+    put_word(&word, 0, size, out, at);
 }
 
 // Copies one word. Called with constants, so that it is a copy of constant length.
@@ -155,45 +169,18 @@ fn put_word(words: &[u8], row: usize, size: usize, out: &mut [u8], at: usize)
 }
 
 // The symbol sent for a raw one after the symbol `last`.
-fn sent_symbol(mode: u32, last: u8, raw: u8) -> u8
-    requires { ⌜ (known mode ≡ true) × (last < 16) × (raw < 16) ⌝ }
-    ensures { λ r. ⌜ r ≡ sent (radioOf mode) last raw ⌝ }
+fn sent_symbol(chained: bool, last: usize, raw: usize) -> usize
+    requires { ⌜ (last < 16) × (raw < 16) ⌝ }
+    ensures { λ r. ⌜ r ≡ pick chained ((last + raw) % 2) raw ⌝ }
 {
-    if mode == 0 { (last + raw) % 2 } else { raw }
+    if chained { (last + raw) % 2 } else { raw }
 }
 
-// The raw symbol in the lowest bits.
-fn low_bits(mode: u32, x: u8) -> u8
-    requires { ⌜ known mode ≡ true ⌝ }
-    ensures { λ r. ⌜ r ≡ x % 2 ^ radioOf mode .bits ⌝ }
-{
-    if mode == 0 { x % 2 } else { x % 16 }
-}
-
-// What is left above it.
-fn high_bits(mode: u32, x: u8) -> u8
-    requires { ⌜ known mode ≡ true ⌝ }
-    ensures { λ r. ⌜ r ≡ x / 2 ^ radioOf mode .bits ⌝ }
-{
-    if mode == 0 { x / 2 } else { x / 16 }
-}
-
-// Symbols of an octet of the mode's radio; 0 for a mode that has no radio.
-pub fn per_octet(mode: u32) -> usize
-    ensures { λ r. ⌜ r ≡ perAt mode ⌝ }
-{
-    if mode == 0 {
-        return 8;
-    }
-    if mode == 1 {
-        return 2;
-    }
-    0
-}
-
+// Chips of an octet of the mode's radio.
 fn octet_chips(mode: u32) -> usize
     requires { ⌜ known mode ≡ true ⌝ }
     ensures { λ r. ⌜ r ≡ octetChips (radioOf mode) ⌝ }
 {
-    if mode == 0 { 120 } else { 64 }
+    let phy = codes::phy_of(mode);
+    phy.per * phy.size
 }

@@ -6,26 +6,27 @@ use mathlib.Core.List.{List, []}
 use Prim.Native.Nat.{ℕ, suc, _+_, _-_, _≤_, _<_}
 use native.Mathlib.Omega.{arith}
 use lib.ListN.{length, getD, take, drop, length-take, length-drop}
-use lib.Dec.{eqb}
-use Rattle.codes.specs.Numbers.{DONE, NOCHIP}
+use lib.Dec.{eqb, leb}
+use borrow.Author.Tests.{leb-true, le-ltb}
+use Rattle.codes.specs.Numbers.{DONE, NOCHIP, MORE}
 use Rattle.codes.specs.Chips.{pick, bad}
 use Rattle.codes.specs.Radio.{known, radioOf}
 use Rattle.codes.specs.Symbol.{symbolOf}
-use Rattle.codes.specs.Sizes.{sizeAt}
 use Rattle.codes.specs.declared.Symbol.{Symbol}
-use Rattle.codes.proofs.Modes.{each-row, size-known}
+use Rattle.codes.proofs.Modes.{row-test}
 use Rattle.codes.proofs.Facts.{sound}
 use Rattle.reader.specs.declared.Hand.{Hand}
 use Rattle.reader.specs.Order.{reading}
 use Rattle.reader.specs.Taking.{begun, stopped, advanced, followed, roomed, keptAt, Tells}
 use Rattle.reader.proofs.Raw.{size-pos}
+use Rattle.reader.proofs.Steps.{followed-stops, kept-stops}
 use Rattle.reader.proofs.Carried.{Carries}
 use Rattle.reader.proofs.Turns.{Open, Turned, next-hand, room-for-any}
 use Rattle.reader.proofs.Sofar.{Sofar, Ways, symbol-taken}
 use Rattle.reader.proofs.Scanning.{Scanning, Turning, scan-starts, scan-out, scan-bad, turned-scan}
 
 low : (mode : ℕ) → radioOf mode .limit ≤ 255
-low = each-row (λ r. r .limit ≤ 255) (omega arith) (omega arith)
+low mode = leb-true _ _ (row-test (λ r. leb (r .limit) 255) refl mode)
 
 -- `followed` is what the test of room, with room for every report, leaves as it is
 followed-is : (mode : ℕ) → known mode ≡ true → (h : Hand) (x : Symbol) → h .length ≤ 127
@@ -51,17 +52,14 @@ symbol-followed mode m ws octets h L next g e =
     symbol-taken (radioOf mode) (sound mode) 127 ws octets h L next (low mode) x
     refl g (e ∙ followed-is mode m h x (L .goes .few)) (keptAt mode g octets) (rw m)
 
-pub size-positive : (mode size : ℕ) → known mode ≡ true → size ≡ sizeAt mode → 0 < size
-size-positive mode size m e = rw (e ∙ size-known mode m) (size-pos (radioOf mode) (sound mode))
+pub size-positive : (mode size : ℕ) → size ≡ radioOf mode .size → 0 < size
+size-positive mode size e = rw e (size-pos (radioOf mode) (sound mode))
 
 module _ (mode : ℕ) (m : known mode ≡ true) (room : ℕ) (chips : List ℕ) where
   pub starts : (octets : List ℕ) (h : Hand) → h ≡ begun → length octets ≡ 127 → Scanning (radioOf mode) room chips octets h 0
   starts octets h e o = rw e (scan-starts (radioOf mode) (sound mode) room chips octets o)
 
-  module _ (octets : List ℕ) (h : Hand) (at size : ℕ) (e : size ≡ sizeAt mode) (L : Scanning (radioOf mode) room chips octets h at) where
-    is : size ≡ radioOf mode .size
-    is = e ∙ size-known mode m
-
+  module _ (octets : List ℕ) (h : Hand) (at size : ℕ) (is : size ≡ radioOf mode .size) (L : Scanning (radioOf mode) room chips octets h at) where
     pub runs-out : length chips - at < size → Tells (radioOf mode) room (reading (radioOf mode) room chips) octets h
     runs-out l = scan-out (radioOf mode) (sound mode) room chips octets h at L (rw is at l)
 
@@ -90,3 +88,15 @@ module _ (mode : ℕ) (m : known mode ≡ true) (room : ℕ) (chips : List ℕ) 
               let way = turned-scan (radioOf mode) (sound mode) room chips octets h at L (rw is at l)
               (low mode) _ (ap (symbolOf (radioOf mode)) part-is) g (eg ∙ ap (roomed room h) (ef ∙ rw m)) kept (ek ∙ rw m) in
               (λ n. rw is (way .0 n), way .1)
+
+        -- where it is refused, the hand stays as it was but for the number
+        pub refusal-ends : (f : Hand) → f ≡ followed mode h (symbolOf (radioOf mode) part) → (f .number ≡ MORE → ⊥) → (f .number ≡ DONE → ⊥)
+            → (g : Hand) → g ≡ stopped (f .number) h → Tells (radioOf mode) room (reading (radioOf mode) room chips) octets g
+        refusal-ends f ef m d g eg =
+            let x = symbolOf (radioOf mode) part in
+            let n = ap (λ (k : Hand). k .number) ef in
+            let s : f ≡ stopped (f .number) h = rw ef (followed-stops mode h x (λ e. m (n ∙ e)) (λ e. d (n ∙ e))) in
+            let l : f .length ≤ room = omega (arith, ap (λ (k : Hand). k .length) s, L .sofar .goes .fits) in
+            let i : g .number ≡ f .number = ap (λ (k : Hand). k .number) eg in
+            turns f ef g (eg ∙ sym s ∙ rw (le-ltb room (f .length) l)) octets
+            (sym (kept-stops mode g octets (λ e. m (sym i ∙ e)) (λ e. d (sym i ∙ e)))) .1 (λ e. m (sym i ∙ e))

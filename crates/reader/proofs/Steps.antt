@@ -8,21 +8,40 @@ use native.Mathlib.Nat.{le-div-iff-mul-le}
 use native.Mathlib.Omega.{arith}
 use lib.ListN.{set}
 use lib.Dec.{eqb, leb}
-use borrow.Author.Tests.{lt-ltb, le-ltb, le-leb, lt-leb, eq-eqb, ne-eqb}
+use lib.Pow.{pow-pos}
+use borrow.Author.Tests.{lt-ltb, le-ltb, le-leb, lt-leb, eq-eqb, ne-eqb, eqb-true}
 use Rattle.codes.specs.Numbers.{DONE, BADMODE, MORE}
 use Rattle.codes.specs.Radio.{Radio, known, radioOf}
 use Rattle.codes.specs.declared.Symbol.{Symbol}
 use Rattle.codes.proofs.Tests.{by-test}
-use Rattle.codes.proofs.Modes.{each-row}
+use Rattle.codes.specs.declared.Phy.{Phy}
+use Rattle.codes.specs.Phy.{phyOf, phyAt}
+use Rattle.codes.proofs.Modes.{each-row, phy-known}
 use Rattle.frame.specs.Frame.{perOctet}
+use Rattle.frame.proofs.Modes.{few-values}
 use Rattle.reader.specs.declared.Hand.{Hand}
 use Rattle.reader.specs.Order.{rules}
 use Rattle.reader.proofs.Rules.{inside-length, preamble-rules, preamble-fair}
-use Rattle.reader.specs.Taking.{stopped, rawFrom, shifted, lengthAfter, preambled, moved, onward, advanced, followed, Roomy, keptIn, keptAt}
+use Rattle.reader.specs.Taking.{stopped, rawBy, rawFrom, shiftedBy, shifted, lengthAfter, preambled, moved, onward, advanced, followed, Roomy, keptIn, keptAt}
 
 -- a raw symbol is below 16
 pub raw-few : (mode last v : ℕ) → rawFrom (radioOf mode) last v < 16
-raw-few mode last v = each-row (λ r. rawFrom r last v < 16) (omega arith) (omega arith) mode
+raw-few mode last v = each-row (λ r. rawFrom r last v < 16) (omega arith) (omega arith) (omega arith) mode
+
+-- the numbers of a mode's row, in the words of the code's steps
+module _ (mode : ℕ) (k : known mode ≡ true) (p : Phy) (e : p ≡ phyAt mode) where
+  is-row : p ≡ phyOf (radioOf mode)
+  is-row = e ∙ phy-known mode k
+
+  pub row-raw : (x last v : ℕ) → x ≡ rawBy (p .chained) (p .values) last v → x ≡ rawFrom (radioOf mode) last v
+  row-raw x last v q = q ∙ ap (λ (y : Phy). rawBy (y .chained) (y .values) last v) is-row
+
+  pub row-shifted : (x octet raw : ℕ) → x ≡ shiftedBy (p .values) octet raw → x ≡ shifted (radioOf mode) octet raw
+  row-shifted x octet raw q = q ∙ ap (λ (y : Phy). shiftedBy (y .values) octet raw) is-row
+
+  -- a symbol has values, and few
+  pub row-values : (0 < p .values) × (p .values ≤ 16)
+  row-values = rw is-row (pow-pos (radioOf mode .bits), few-values mode)
 
 -- go on, or done
 pub goes : {A : Type 0} (x : ℕ) (a b : A) → (x ≡ MORE) ⊎ (x ≡ DONE) → onward x a b ≡ a
@@ -58,6 +77,45 @@ module _ (mode : ℕ) (h : Hand) (x : Symbol) where
         sym (stops first (moved h first long (x .distance) (x .value) octet) (stopped first h) n (λ z. preamble-fair per (h .taken) raw (sym ef ∙ z)))
         ∙ follow-on d per raw octet long first ep er refl refl (ef ∙ preamble-rules per (h .taken) raw (λ z. n (ef ∙ z)) octet long)
 
+-- a hand that a symbol stops stays as it was, but for the number
+abbrev Stays : Hand → Hand → Type 0
+Stays h g = (g .number ≡ MORE → ⊥) → (g .number ≡ DONE → ⊥) → g ≡ stopped (g .number) h
+
+onward-stays : (h : Hand) (x n d v octet : ℕ) → Stays h (onward x (moved h x n d v octet) (stopped x h))
+onward-stays h x n d v octet =
+    by-test (eqb x MORE)
+    (λ t. rw t (λ m e. absurd (m (eqb-true x MORE t))))
+    (λ t. rw t (by-test (eqb x DONE) (λ u. rw u (λ m e. absurd (e (eqb-true x DONE u)))) (λ u. rw u (λ m e. refl))))
+
+-- what is worked out of a symbol that is read
+module _ (mode : ℕ) (h : Hand) (x : Symbol) where
+  abbrev rawIn : ℕ
+  rawIn = rawFrom (radioOf mode) (h .last) (x .value)
+
+  abbrev octetIn : ℕ
+  octetIn = shifted (radioOf mode) (h .octet) rawIn
+
+  abbrev lengthIn : ℕ
+  lengthIn = lengthAfter (perOctet (radioOf mode)) (h .taken) (h .length) octetIn
+
+  abbrev numberIn : ℕ
+  numberIn = rules (perOctet (radioOf mode)) 127 (h .taken) rawIn octetIn lengthIn
+
+pub followed-stops : (mode : ℕ) (h : Hand) (x : Symbol) → (followed mode h x .number ≡ MORE → ⊥)
+    → (followed mode h x .number ≡ DONE → ⊥) → followed mode h x ≡ stopped (followed mode h x .number) h
+unfolding followed advanced
+followed-stops mode h x =
+    by-test (known mode)
+    (λ k. rw k (by-test (eqb (x .number) DONE)
+    (λ e. rw e (onward-stays h (numberIn mode h x) (lengthIn mode h x) (x .distance) (x .value) (octetIn mode h x)))
+    (λ e. rw e (λ m d. refl))))
+    (λ k. rw k (λ m d. refl))
+
+-- and so do the octets
+pub kept-stops : (mode : ℕ) (h : Hand) (octets : List ℕ) → (h .number ≡ MORE → ⊥) → (h .number ≡ DONE → ⊥) → keptAt mode h octets ≡ octets
+unfolding keptAt
+kept-stops mode h octets m d = by-test (known mode) (λ k. rw k (stops (h .number) _ octets m d)) (λ k. rw k)
+
 -- Within an octet a symbol brings no length, so what there was room for there still is.
 module _ (mode : ℕ) (room : ℕ) (h : Hand) (fits : h .length ≤ room) where
   one-more : (r : Radio) → ((t : ℕ) → ((t + 1) % 2 ^ 32 % perOctet r ≡ 0 → ⊥) → (t + 1) % perOctet r ≡ 0 → ⊥) → (x octet d v : ℕ)
@@ -75,27 +133,15 @@ module _ (mode : ℕ) (room : ℕ) (h : Hand) (fits : h .length ≤ room) where
   followed-roomy x =
       by-test (known mode)
       (λ k. rw k (by-test (eqb (x .number) DONE)
-      (λ d. rw d (one-more r wraps number octet (x .distance) (x .value)))
+      (λ d. rw d (one-more (radioOf mode) wraps (numberIn mode h x) (octetIn mode h x) (x .distance) (x .value)))
       (λ d. rw d (λ n. fits))))
       (λ k. rw k (λ n. fits))
     where
-      r : Radio
-      r = radioOf mode
-
-      raw : ℕ
-      raw = rawFrom r (h .last) (x .value)
-
-      octet : ℕ
-      octet = shifted r (h .octet) raw
-
-      number : ℕ
-      number = rules (perOctet r) 127 (h .taken) raw octet (lengthAfter (perOctet r) (h .taken) (h .length) octet)
-
       -- a count of 32 bits wraps at a whole octet
-      wraps : (t : ℕ) → ((t + 1) % 2 ^ 32 % perOctet r ≡ 0 → ⊥) → (t + 1) % perOctet r ≡ 0 → ⊥
+      wraps : (t : ℕ) → ((t + 1) % 2 ^ 32 % perOctet (radioOf mode) ≡ 0 → ⊥) → (t + 1) % perOctet (radioOf mode) ≡ 0 → ⊥
       wraps =
           each-row (λ r. (t : ℕ) → ((t + 1) % 2 ^ 32 % perOctet r ≡ 0 → ⊥) → (t + 1) % perOctet r ≡ 0 → ⊥)
-          (λ t n e. n (omega arith)) (λ t n e. n (omega arith)) mode
+          (λ t n e. n (omega arith)) (λ t n e. n (omega arith)) (λ t n e. n (omega arith)) mode
 
 -- the ways of `keep`
 module _ (mode : ℕ) (h : Hand) (octets : List ℕ) where
@@ -113,10 +159,6 @@ module _ (mode : ℕ) (h : Hand) (octets : List ℕ) where
         same : (x : ℕ) → octets ≡ onward x octets octets
         same x = by-test (eqb x MORE) (λ t. rw t) (λ t. rw t (by-test (eqb x DONE) (λ d. rw d) (λ d. rw d)))
 
-    pub keep-refused : (h .number ≡ MORE → ⊥) → (h .number ≡ DONE → ⊥) → octets ≡ keptAt mode h octets
-    unfolding keptAt
-    keep-refused m d = rw (k, ne-eqb (h .number) MORE m, ne-eqb (h .number) DONE d)
-
     module _ (g : (h .number ≡ MORE) ⊎ (h .number ≡ DONE)) (per : ℕ) (e : per ≡ perOctet (radioOf mode)) where
       kept : keptAt mode h octets ≡ keptIn per h octets
       unfolding keptAt
@@ -125,18 +167,15 @@ module _ (mode : ℕ) (h : Hand) (octets : List ℕ) where
       pub keep-early : h .taken < 7 * per → octets ≡ keptAt mode h octets
       keep-early l = sym (kept ∙ rw (lt-leb (7 * per) (h .taken) l))
 
-      module _ (p : per ≡ 0 → ⊥) (l : 7 * per ≤ h .taken) (i : ℕ) (ei : i ≡ h .taken / perOctet (radioOf mode)) where
-        index-is : i ≡ h .taken / per
-        index-is = ei ∙ ap (λ (n : ℕ). h .taken / n) (sym e)
+      module _ (p : 0 < per) (l : 7 * per ≤ h .taken) where
+        pub keep-place : 7 ≤ h .taken / per
+        keep-place = le-div-iff-mul-le {k = per} {x = 7} {y = h .taken} (omega arith) .1 l
 
-        pub keep-place : 7 ≤ i
-        keep-place = rw index-is (le-div-iff-mul-le {k = per} {x = 7} {y = h .taken} (omega arith) .1 l)
-
-        module _ (z : h .taken % perOctet (radioOf mode) ≡ 0) where
-          pub keep-whole : i - 7 < 127 → set octets (i - 7) (h .octet % 256) ≡ keptAt mode h octets
+        module _ (z : h .taken % per ≡ 0) where
+          pub keep-whole : h .taken / per - 7 < 127 → set octets (h .taken / per - 7) (h .octet % 256) ≡ keptAt mode h octets
           keep-whole b =
-              sym (kept ∙ rw (le-leb (7 * per) (h .taken) l, eq-eqb (h .taken % per) 0 (rw e z), ← index-is, lt-ltb (i - 7) 127 b))
+              sym (kept ∙ rw (le-leb (7 * per) (h .taken) l, eq-eqb (h .taken % per) 0 z, lt-ltb (h .taken / per - 7) 127 b))
 
-          pub keep-past : 127 ≤ i - 7 → octets ≡ keptAt mode h octets
+          pub keep-past : 127 ≤ h .taken / per - 7 → octets ≡ keptAt mode h octets
           keep-past b =
-              sym (kept ∙ rw (le-leb (7 * per) (h .taken) l, eq-eqb (h .taken % per) 0 (rw e z), ← index-is, le-ltb (i - 7) 127 b))
+              sym (kept ∙ rw (le-leb (7 * per) (h .taken) l, eq-eqb (h .taken % per) 0 z, le-ltb (h .taken / per - 7) 127 b))

@@ -4,7 +4,7 @@
 -- are, they are reduced or wrap, and no sum overflows. The stepping receiver's push names
 -- `followed` and `keptAt`: of a forged record that passes its test they are all that is said.
 use mathlib.Core.Path.{_≡_}
-use mathlib.Core.Bool.{not}
+use mathlib.Core.Bool.{Bool, not}
 use Prim.Native.Nat.{ℕ, _+_, _-_, _*_, _/_, _%_, _^_, _≤_}
 use mathlib.Core.List.{List}
 use lib.ListN.{length, take, set}
@@ -17,7 +17,6 @@ use Rattle.codes.specs.declared.Symbol.{Symbol}
 use Rattle.frame.specs.Frame.{perOctet}
 use Rattle.reader.specs.declared.Hand.{Hand}
 use Rattle.reader.specs.declared.Reading.{Reading}
-use Rattle.reader.specs.Received.{rawAfter}
 use Rattle.reader.specs.Order.{Answer, refused, done, both, ends, rules}
 use Rattle.reader.specs.Read.{told}
 
@@ -30,13 +29,19 @@ abbrev pub stopped : ℕ → Hand → Hand
 stopped x h =
     record { number = x; taken = h .taken; length = h .length; count = h .count; last = h .last; octet = h .octet }
 
--- the raw symbol of a value, after a last one
+-- the raw symbol of a value, after a last one; of the numbers of a radio's row, and of a radio
+abbrev pub rawBy : Bool → ℕ → ℕ → ℕ → ℕ
+rawBy chained values last v = pick chained ((last % values + v % values) % 2) (v % values)
+
 abbrev pub rawFrom : Radio → ℕ → ℕ → ℕ
-rawFrom r last v = rawAfter r (last % 2 ^ r .bits) (v % 2 ^ r .bits)
+rawFrom r last v = rawBy (r .chained) (2 ^ r .bits) last v
 
 -- the octet in hand: a raw symbol enters at the top, and what was there moves down
+abbrev pub shiftedBy : ℕ → ℕ → ℕ → ℕ
+shiftedBy values octet raw = octet % 256 / values + raw * (256 / values)
+
 abbrev pub shifted : Radio → ℕ → ℕ → ℕ
-shifted r octet raw = octet % 256 / 2 ^ r .bits + raw * (256 / 2 ^ r .bits)
+shifted r octet raw = shiftedBy (2 ^ r .bits) octet raw
 
 -- n, which the last symbol of the length octet brings
 abbrev pub lengthAfter : ℕ → ℕ → ℕ → ℕ → ℕ
@@ -62,13 +67,13 @@ byRules per h raw octet n d v =
     (stopped (rules per 127 (h .taken) raw octet n) h)
 
 -- the same, over the raw symbol alone
-abbrev pub shiftedBy : Radio → Hand → ℕ → ℕ → ℕ → Hand
-shiftedBy r h raw d v =
+abbrev pub byRaw : Radio → Hand → ℕ → ℕ → ℕ → Hand
+byRaw r h raw d v =
     byRules (perOctet r) h raw (shifted r (h .octet) raw) (lengthAfter (perOctet r) (h .taken) (h .length) (shifted r (h .octet) raw)) d v
 
 -- a symbol's value and distance taken
 unfoldable pub advanced : Radio → Hand → ℕ → ℕ → Hand
-advanced r h v d = shiftedBy r h (rawFrom r (h .last) v) d v
+advanced r h v d = byRaw r h (rawFrom r (h .last) v) d v
 
 -- what follows a match
 unfoldable pub followed : ℕ → Hand → Symbol → Hand

@@ -4,16 +4,16 @@
 // whole reading's answer (proofs/Sofar.antt, proofs/Scanning.antt).
 ghost use mathlib.Core.Path.{_≡_};
 ghost use mathlib.Core.Bool.{true};
-ghost use Prim.Native.Nat.{_≤_, _<_, _/_, _%_};
+ghost use Prim.Native.Nat.{_≤_, _<_, _%_};
 ghost use lib.ListN.{length};
 ghost use lib.Dec.{eqb};
 ghost use Rattle.codes.specs.Radio.{known, radioOf};
-ghost use Rattle.codes.specs.Gathered.{symbolIn};
+ghost use Rattle.codes.specs.Gathered.{gatheredAt, symbolIn};
 ghost use Rattle.frame.specs.Outcome.{outcome};
 ghost use Rattle.frame.specs.Frame.{perOctet};
 ghost use Rattle.reader.specs.Order.{refused, rules, reading};
 ghost use Rattle.reader.specs.Read.{told, readOf};
-ghost use Rattle.reader.specs.Taking.{begun, stopped, rawFrom, shifted, lengthAfter, preambled, moved, onward, followed};
+ghost use Rattle.reader.specs.Taking.{begun, stopped, rawBy, shiftedBy, lengthAfter, preambled, moved, onward, followed};
 ghost use Rattle.reader.specs.Taking.{roomed, Roomy, storedIn, keptAt, toldBy, Tells};
 
 // What the reader gives back: 0, the number of symbols in the frame, the report's length and the
@@ -42,7 +42,7 @@ pub struct Hand {
 pub fn read(mode: u32, chips: &[u8], report: &mut [u8]) -> Reading
     ensures { λ r. ⌜ outcome r (now (report .exit)) ≡ readOf mode (now (chips .entry)) (now (report .entry)) ⌝ }
 {
-    if codes::size_of(mode) == 0 {
+    if codes::phy_of(mode).size == 0 {
         return refusal(codes::BADMODE, 0);
     }
     let mut octets = [0u8; 127];
@@ -60,7 +60,7 @@ fn scan(mode: u32, chips: &[u8], room: usize, octets: &mut [u8; 127]) -> Hand
     requires { ⌜ (known mode ≡ true) × (length (now octets) ≡ 127) ⌝ }
     ensures { λ r. ⌜ Tells (radioOf mode) room (reading (radioOf mode) room (now (chips .entry))) (now (octets .exit)) r ⌝ }
 {
-    let size = codes::size_of(mode);
+    let size = codes::phy_of(mode).size;
     let mut hand = begin();
     let mut at: usize = 0;
     'symbols: while size <= chips.len() - at {
@@ -68,14 +68,19 @@ fn scan(mode: u32, chips: &[u8], room: usize, octets: &mut [u8; 127]) -> Hand
         let mut bits: u64 = 0;
         let mut k: usize = 0;
         'chips: while k < codes::EIGHTS {
-            bits = codes::gather(mode, part, k, bits);
+            bits = gather_eight(mode, part, k, bits);
             if bits == codes::NOEIGHT {
                 hand = stop(codes::NOCHIP, hand);
                 break 'symbols;
             }
             k += 1;
         }
-        hand = settle(mode, room, hand, take_symbol(mode, hand, bits), octets);
+        let next = take_symbol(mode, hand, bits);
+        if next.number != codes::MORE && next.number != codes::DONE {
+            hand = stop(next.number, hand);
+            break 'symbols;
+        }
+        hand = settle(mode, room, hand, next, octets);
         if hand.number != codes::MORE {
             break 'symbols;
         }
@@ -112,15 +117,32 @@ fn stop(number: u32, hand: Hand) -> Hand
     }
 }
 
-// The symbol that gathered bits say, taken. Each mode's way is made by itself, of constants.
+// The next eight of a symbol, gathered. A call for each radio, with its mode as a constant.
+fn gather_eight(mode: u32, part: &[u8], k: usize, bits: u64) -> u64
+    requires { ⌜ known mode ≡ true ⌝ }
+    ensures { λ r. ⌜ r ≡ gatheredAt mode (now (part .entry)) k bits ⌝ }
+{
+    if mode == 0 {
+        return codes::gather(0, part, k, bits);
+    }
+    if mode == 1 {
+        return codes::gather(1, part, k, bits);
+    }
+    codes::gather(2, part, k, bits)
+}
+
+// The symbol that gathered bits say, taken; likewise.
 fn take_symbol(mode: u32, hand: Hand, bits: u64) -> Hand
     requires { ⌜ known mode ≡ true ⌝ }
     ensures { λ r. ⌜ r ≡ followed mode hand (symbolIn mode bits) ⌝ }
 {
     if mode == 0 {
-        return follow(0, hand, codes::matched(0, bits));
+        return follow(0, hand, codes::judge(0, codes::nearest(0, bits)));
     }
-    follow(1, hand, codes::matched(1, bits))
+    if mode == 1 {
+        return follow(1, hand, codes::judge(1, codes::nearest(1, bits)));
+    }
+    follow(2, hand, codes::judge(2, codes::nearest(2, bits)))
 }
 
 // What follows a match, at the symbol after those taken: 1, the symbol's own number where it isn't
@@ -130,20 +152,22 @@ fn take_symbol(mode: u32, hand: Hand, bits: u64) -> Hand
 pub fn follow(mode: u32, hand: Hand, symbol: codes::Symbol) -> Hand
     ensures { λ r. ⌜ r ≡ followed mode hand symbol ⌝ }
 {
-    let per = frame::per_octet(mode);
-    if per == 0 {
+    let phy = codes::phy_of(mode);
+    if phy.size == 0 {
         return stop(codes::BADMODE, hand);
     }
+    let per = phy.per;
     if symbol.number != codes::DONE {
         return stop(symbol.number, hand);
     }
-    let raw = raw_of(mode, hand.last, symbol.value);
-    let octet = shift(mode, hand.octet, raw);
+    let values = phy.values as u32;
+    let raw = raw_of(phy.chained, values, hand.last, symbol.value);
+    let octet = shift(values, hand.octet, raw);
     let first = preamble_rule(per, hand.taken, raw);
     if first != codes::MORE {
         return stop(first, hand);
     }
-    if !whole(mode, hand.taken as usize + 1) {
+    if !whole(per, hand.taken as usize + 1) {
         return advance(hand, codes::MORE, hand.length, symbol, octet);
     }
     let length = length_after(per, hand.taken, hand.length, octet);
@@ -151,25 +175,12 @@ pub fn follow(mode: u32, hand: Hand, symbol: codes::Symbol) -> Hand
     advance(hand, number, length, symbol, octet)
 }
 
-// Whether so many symbols are whole octets. (A remainder by a number that is not constant would be
-// a division.)
-fn whole(mode: u32, symbols: usize) -> bool
-    requires { ⌜ known mode ≡ true ⌝ }
-    ensures { λ r. ⌜ r ≡ eqb (symbols % perOctet (radioOf mode)) 0 ⌝ }
+// Whether so many symbols are whole octets.
+fn whole(per: usize, symbols: usize) -> bool
+    requires { ⌜ 0 < per ⌝ }
+    ensures { λ r. ⌜ r ≡ eqb (symbols % per) 0 ⌝ }
 {
-    if mode == 0 {
-        symbols % 8 == 0
-    } else {
-        symbols % 2 == 0
-    }
-}
-
-// The octets that so many symbols make.
-fn octets_in(mode: u32, symbols: usize) -> usize
-    requires { ⌜ known mode ≡ true ⌝ }
-    ensures { λ r. ⌜ r ≡ symbols / perOctet (radioOf mode) ⌝ }
-{
-    if mode == 0 { symbols / 8 } else { symbols / 2 }
+    symbols % per == 0
 }
 
 // One symbol more, unless the number is a refusal.
@@ -190,27 +201,23 @@ fn advance(hand: Hand, number: u32, length: u32, symbol: codes::Symbol, octet: u
 }
 
 // The raw symbol of a value, after the last one.
-fn raw_of(mode: u32, last: u32, value: u32) -> u32
-    requires { ⌜ known mode ≡ true ⌝ }
-    ensures { λ r. ⌜ r ≡ rawFrom (radioOf mode) last value ⌝ }
+fn raw_of(chained: bool, values: u32, last: u32, value: u32) -> u32
+    requires { ⌜ (0 < values) × (values ≤ 16) ⌝ }
+    ensures { λ r. ⌜ r ≡ rawBy chained values last value ⌝ }
 {
-    if mode == 0 {
-        (last % 2 + value % 2) % 2
+    if chained {
+        (last % values + value % values) % 2
     } else {
-        value % 16
+        value % values
     }
 }
 
 // The octet in hand: the raw symbol enters at the top, and what was there moves down.
-fn shift(mode: u32, octet: u32, raw: u32) -> u32
-    requires { ⌜ (known mode ≡ true) × (raw < 16) ⌝ }
-    ensures { λ r. ⌜ r ≡ shifted (radioOf mode) octet raw ⌝ }
+fn shift(values: u32, octet: u32, raw: u32) -> u32
+    requires { ⌜ (0 < values) × (raw < 16) ⌝ }
+    ensures { λ r. ⌜ r ≡ shiftedBy values octet raw ⌝ }
 {
-    if mode == 0 {
-        octet % 256 / 2 + raw * 128
-    } else {
-        octet % 256 / 16 + raw * 16
-    }
+    octet % 256 / values + raw * (256 / values)
 }
 
 // n, which the last symbol of the length octet brings.
@@ -262,7 +269,7 @@ fn settle(mode: u32, room: usize, hand: Hand, next: Hand, octets: &mut [u8; 127]
     ensures { λ r. ⌜ r ≡ roomed room hand next ⌝ }
     ensures { λ r. ⌜ now (octets .exit) ≡ keptAt mode r (now (octets .entry)) ⌝ }
 {
-    if !whole(mode, next.taken as usize) {
+    if !whole(codes::phy_of(mode).per, next.taken as usize) {
         return next;
     }
     let held = with_room(room, hand, next);
@@ -286,12 +293,13 @@ fn with_room(room: usize, hand: Hand, next: Hand) -> Hand
 pub fn keep(mode: u32, hand: Hand, octets: &mut [u8; 127])
     ensures { λ _. ⌜ now (octets .exit) ≡ keptAt mode hand (now (octets .entry)) ⌝ }
 {
-    let per = frame::per_octet(mode);
-    if per == 0 {
+    let phy = codes::phy_of(mode);
+    if phy.size == 0 {
         return;
     }
+    let per = phy.per;
     let taken = hand.taken as usize;
-    if !whole(mode, taken) {
+    if !whole(per, taken) {
         return;
     }
     if hand.number != codes::MORE && hand.number != codes::DONE {
@@ -300,7 +308,7 @@ pub fn keep(mode: u32, hand: Hand, octets: &mut [u8; 127])
     if taken < 7 * per {
         return;
     }
-    let k = octets_in(mode, taken) - 7;
+    let k = taken / per - 7;
     if k < 127 {
         octets[k] = (hand.octet % 256) as u8;
     }

@@ -1,5 +1,5 @@
 -- The ways of the stepping receiver's functions, over plain values. Assumes nothing.
-use mathlib.Core.Path.{_≡_, sym, ap, ap₂, _∙_}
+use mathlib.Core.Path.{_≡_, refl, sym, ap, ap₂, _∙_}
 use mathlib.Core.Bool.{Bool, true, false, not}
 use mathlib.Core.List.{List}
 use mathlib.Core.Logic.{_⊎_, inl, inr, ⊎-elim}
@@ -8,17 +8,19 @@ use native.Mathlib.Omega.{arith}
 use lib.Dec.{eqb, leb, ltb}
 use lib.ListN.{length, take}
 use lib.Seq.{length-take-le}
-use borrow.Author.Tests.{lt-ltb, le-ltb, le-leb, lt-leb, eq-eqb, ne-eqb, eqb-true, eqb-false, ltb-true, ltb-false}
+use borrow.Author.Tests.{lt-ltb, le-ltb, le-leb, lt-leb, eq-eqb, ne-eqb, eqb-true, eqb-false, ltb-true, ltb-false, leb-true}
 use Rattle.codes.specs.Numbers.{DONE, BADMODE, NOROOM, RUNOUT, ENDED, BADPART, NOTENDED, MORE, FORGED}
 use Rattle.codes.specs.Chips.{pick}
 use Rattle.codes.specs.Radio.{known, radioOf}
 use Rattle.codes.specs.Symbol.{symbolOf}
-use Rattle.codes.specs.Sizes.{sizeAt, limitAt}
+use Rattle.codes.specs.Phy.{phyOf, noPhy, phyAt}
+use Rattle.codes.specs.declared.Phy.{Phy}
 use Rattle.codes.specs.declared.Symbol.{Symbol}
 use Rattle.codes.proofs.Tests.{by-test, not-both}
-use Rattle.codes.proofs.Modes.{each-row, size-known}
+use Rattle.codes.proofs.Modes.{row-test}
 use Rattle.frame.specs.Frame.{perOctet}
 use Rattle.frame.specs.Outcome.{outcome}
+use Rattle.frame.proofs.Modes.{row-size}
 use Rattle.reader.specs.declared.Hand.{Hand}
 use Rattle.reader.specs.declared.Reading.{Reading}
 use Rattle.reader.specs.Order.{Answer, refused, done}
@@ -58,10 +60,11 @@ module _ (mode : ℕ) where
   start-unknown k = rw k
 
 -- no radio accepts a distance above 6
-pub limit-few : (mode limit : ℕ) → limit ≡ limitAt mode → limit ≤ 6
-limit-few mode limit e = by-test (known mode)
-    (λ k. let l : limit ≡ radioOf mode .limit = e ∙ rw k in omega (arith, each-row (λ r. r .limit ≤ 6) (omega arith) (omega arith) mode))
-    (λ k. let l : limit ≡ 0 = e ∙ rw k in omega arith)
+pub limit-few : (mode : ℕ) (p : Phy) → p ≡ phyAt mode → p .limit ≤ 6
+unfolding phyAt
+limit-few mode p e = by-test (known mode)
+    (λ k. let q : p ≡ phyOf (radioOf mode) = e ∙ rw k in rw q (leb-true _ _ (row-test (λ r. leb (r .limit) 6) refl mode)))
+    (λ k. let q : p ≡ noPhy = e ∙ rw k in rw q (omega arith))
 
 -- one number is not below another
 not-below : (a b : ℕ) → leb b a ≡ not (ltb a b)
@@ -94,10 +97,7 @@ module _ (c : Receiver) where
       pub forged-long : 127 < c .length → true ≡ forged c
       forged-long l = sym (tested ∙ rw (k, lt-ltb 127 (c .length) l))
 
-      module _ (s : c .length ≤ 127) (limit : ℕ) (e : limit ≡ limitAt (c .mode)) where
-        limit-is : limit ≡ radioOf (c .mode) .limit
-        limit-is = e ∙ rw k
-
+      module _ (s : c .length ≤ 127) (limit : ℕ) (limit-is : limit ≡ radioOf (c .mode) .limit) where
         pub forged-count : limit * c .taken < c .count → true ≡ forged c
         forged-count b = sym (tested ∙ rw (k, le-ltb 127 (c .length) s, ← limit-is, lt-ltb (limit * c .taken) (c .count) b))
 
@@ -133,15 +133,15 @@ module _ (c : Receiver) (part : List ℕ) where
     unfolding pushOf
     push-ended m = rw (f, ne-eqb (c .ended) MORE m)
 
-    module _ (o : c .ended ≡ MORE) (size : ℕ) (e : size ≡ sizeAt (c .mode)) where
-      size-is : size ≡ radioOf (c .mode) .size
-      size-is = e ∙ size-known (c .mode) (passed-known c f (inl o))
+    module _ (o : c .ended ≡ MORE) (p : Phy) (e : p ≡ phyAt (c .mode)) where
+      size-is : p .size ≡ radioOf (c .mode) .size
+      size-is = row-size (c .mode) (passed-known c f (inl o)) p e
 
-      pub push-part : (length part ≡ size → ⊥) → step BADPART c ≡ pushOf c part
+      pub push-part : (length part ≡ p .size → ⊥) → step BADPART c ≡ pushOf c part
       unfolding pushOf
-      push-part n = rw (f, eq-eqb (c .ended) MORE o, ← size-is, ne-eqb (length part) size n)
+      push-part n = rw (f, eq-eqb (c .ended) MORE o, ← size-is, ne-eqb (length part) (p .size) n)
 
-      module _ (l : length part ≡ size) where
+      module _ (l : length part ≡ p .size) where
         -- the part is one symbol
         pub part-whole : (known (c .mode) ≡ true) × (length part ≡ radioOf (c .mode) .size)
         part-whole = (passed-known c f (inl o), l ∙ size-is)

@@ -46,7 +46,7 @@ impl Receiver {
     pub fn start(mode: u32) -> Step
         ensures { λ r. ⌜ r ≡ startOf mode ⌝ }
     {
-        if codes::size_of(mode) == 0 {
+        if codes::phy_of(mode).size == 0 {
             return begin(mode, codes::BADMODE);
         }
         begin(mode, codes::MORE)
@@ -64,7 +64,7 @@ impl Receiver {
         if self.ended != codes::MORE {
             return self.answer(codes::ENDED);
         }
-        if part.len() != codes::size_of(self.mode) {
+        if part.len() != codes::phy_of(self.mode).size {
             return self.answer(codes::BADPART);
         }
         self.follow(read_by_mode(self.mode, part))
@@ -107,18 +107,18 @@ impl Receiver {
         if self.ended != codes::MORE && self.ended != codes::DONE {
             return false;
         }
-        let per = frame::per_octet(self.mode);
-        if per == 0 {
+        let phy = codes::phy_of(self.mode);
+        if phy.size == 0 {
             return true;
         }
         if 127 < self.length {
             return true;
         }
-        if codes::limit_of(self.mode) as u64 * (self.taken as u64) < self.count as u64 {
+        if phy.limit as u64 * (self.taken as u64) < self.count as u64 {
             return true;
         }
         // six octets stand before the report
-        let total = (6 + self.length as usize) * per;
+        let total = (6 + self.length as usize) * phy.per;
         if self.ended == codes::MORE {
             return total <= self.taken as usize;
         }
@@ -204,7 +204,10 @@ fn read_by_mode(mode: u32, part: &[u8]) -> codes::Symbol
     if mode == 0 {
         return read_part(0, part);
     }
-    read_part(1, part)
+    if mode == 1 {
+        return read_part(1, part);
+    }
+    read_part(2, part)
 }
 
 // The symbol of a part that is one symbol long: gathered and matched as the reader does it.
@@ -225,7 +228,7 @@ fn read_part(mode: u32, part: &[u8]) -> codes::Symbol
         }
         k += 1;
     }
-    codes::matched(mode, bits)
+    codes::judge(mode, codes::nearest(mode, bits))
 }
 
 // All 0 but the mode and the number.

@@ -18,7 +18,7 @@ struct Input {
 fn main() {
     let mode = asked_mode();
     // Told before anything is read, so that nobody types a report in vain.
-    if codes::size_of(mode) == 0 {
+    if codes::phy_of(mode).size == 0 {
         complain(codes::BADMODE);
         return;
     }
@@ -118,7 +118,7 @@ fn capped(x: u64) -> u64
 fn complain(number: u32) {
     io::print_decimal(STDERR_FILENO, number as u64);
     if number == codes::BADMODE {
-        io::write_all(STDERR_FILENO, b" mode is neither 0 nor 1\n");
+        io::write_all(STDERR_FILENO, b" mode above 2\n");
     }
     if number == codes::TOOLONG {
         io::write_all(STDERR_FILENO, b" report longer than 127\n");

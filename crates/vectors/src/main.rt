@@ -1,11 +1,12 @@
-// Runs the writer and the reader on what document 01 marks "run and compared", and writes four
-// whole frames out chip by chip, all to be compared with the file stdout. The chip strings there
-// were made of tables 21 and 24 of the draft standard, and the other lines were worked out from the
-// rules of document 01: neither by this code. What is printed isn't proved but compared; the proofs
-// show that no place outside a buffer is used and that each loop ends. They go through because a
-// length is tested before it is used, and because the writer promises a count that fits the buffer
-// (`chips-fit`). A case that didn't fit would print no line, and the comparison would show that.
-// Bytes are handed on one at a time, not as strings: a string in a call is dear to check.
+// Runs the writer and the reader on what the scope marks "run and compared", and writes six whole
+// frames out chip by chip, all to be compared with the file stdout. The chip strings there were
+// made of tables 21, 24 and 32 of the draft standard (of table 32 the rows that are printed with 16
+// chips; the others by the rule), and the other lines were worked out from the scope's rules:
+// neither by this code. What is printed isn't proved but compared; the proofs show that no place
+// outside a buffer is used and that each loop ends. They go through because a length is tested
+// before it is used, and because the writer promises a count that fits the buffer (`chips-fit`). A
+// case that didn't fit would print no line, and the comparison would show that. Bytes are handed on
+// one at a time, not as strings: a string in a call is dear to check.
 ghost use mathlib.Core.Path.{_≡_};
 ghost use lib.ListN.{length};
 use libc::STDOUT_FILENO;
@@ -20,9 +21,12 @@ fn main() {
     write_line(0, &report, 127, &mut chips, 15959);
     write_line(1, &report, 127, &mut chips, 8512);
     write_line(1, &report, 127, &mut chips, 8511);
+    write_line(2, &report, 127, &mut chips, 4256);
+    write_line(2, &report, 127, &mut chips, 4255);
     write_line(0, &report, 128, &mut chips, 15960);
     write_line(1, &report, 128, &mut chips, 15960);
-    write_line(2, &report, 5, &mut chips, 15960);
+    write_line(2, &report, 128, &mut chips, 15960);
+    write_line(3, &report, 5, &mut chips, 15960);
     write_line(255, &report, 5, &mut chips, 15960);
     write_line(4294967295, &report, 5, &mut chips, 15960);
     write_line(0, &report, 5, &mut chips, 15960);
@@ -32,10 +36,15 @@ fn main() {
     write_line(1, &report, 5, &mut chips, 15960);
     read_line(1, &chips, 704);
     read_line(1, &chips, 703);
+    write_line(2, &report, 5, &mut chips, 15960);
+    read_line(2, &chips, 352);
+    read_line(2, &chips, 351);
     whole_frame(0, b"", &mut chips);
     whole_frame(1, b"", &mut chips);
+    whole_frame(2, b"", &mut chips);
     whole_frame(0, b"rope 12 wet", &mut chips);
     whole_frame(1, b"rope 12 wet", &mut chips);
+    whole_frame(2, b"rope 12 wet", &mut chips);
 }
 
 // Room for the longest frame, with no chip in it: what the writer leaves alone stays 255.

@@ -1,29 +1,31 @@
--- `gather` meets its contract: the constants of each call are the numbers of the mode's layout.
+-- `gather` meets its contract: the numbers of the call are those of the mode's layout.
 -- Assumes nothing.
-use borrow.Author.Needs.{needs}
 use Rattle.codes.specs.Gathered.{gatheredAt}
-use Rattle.codes.proofs.Modes.{unknown}
+use Rattle.codes.proofs.Modes.{phy-sized, phy-sizeless}
+use Rattle.codes.proofs.Gathering.{layout-few}
 use Rattle.codes.proofs.gather.Statement.{statement}
 use Rattle.codes.proofs.gather.Tie as tie
 
-gather-by-requires : tie.Need-gather-by-requires
-gather-by-requires c κs = search needs
+phy-of-requires : tie.Need-phy-of-requires
+phy-of-requires c κs = tt
 
 returns : tie.Need-returns
 unfolding gatheredAt
-returns c = rw (c .before .if1 .taken) (c .gather-by .ensures)
+returns c = let z = c .before .before in
+    rw (phy-sizeless _ (z .phy-of .result) (z .phy-of .ensures) (c .if1 .taken))
 
-gather-by-requires-2 : tie.Need-gather-by-requires-2
-gather-by-requires-2 c κs = search needs
+gather-by-requires : tie.Need-gather-by-requires
+gather-by-requires c κs =
+    let z = c .before .before in
+    let k = phy-sized _ (z .phy-of .result) (z .phy-of .ensures) (c .if1 .left) in
+    rw (k .1) (layout-few (z .before .before .args .mode))
 
 returns-2 : tie.Need-returns-2
 unfolding gatheredAt
-returns-2 c = rw (c .before .if2 .taken) (c .gather-by2 .ensures)
-
-returns-3 : tie.Need-returns-3
-unfolding gatheredAt
-returns-3 c = rw (unknown _ (c .before .if1 .left) (c .if2 .left))
+returns-2 c =
+    let z = c .before .before .before in
+    let k = phy-sized _ (z .phy-of .result) (z .phy-of .ensures) (c .before .if1 .left) in
+    rw (k .0) (rw (k .1) at (c .gather-by .ensures))
 
 pub gather-spec : {M : Type 1} → statement M
-gather-spec =
-    tie.close (tie.spec gather-by-requires returns gather-by-requires-2 returns-2 returns-3)
+gather-spec = tie.close (tie.spec phy-of-requires returns gather-by-requires returns-2)

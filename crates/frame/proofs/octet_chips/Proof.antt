@@ -1,13 +1,22 @@
--- `octet_chips` meets its contract: a radio's numbers a branch. Assumes nothing.
-use Rattle.codes.proofs.Modes.{second}
+-- `octet_chips` meets its contract: the product of two numbers of the mode's row.
+-- Assumes nothing.
+use native.Mathlib.Omega.{arith}
+use Rattle.frame.proofs.Modes.{few-octet, row-octet}
+use borrow.Author.Needs.{needs}
 use Rattle.frame.proofs.octet_chips.Statement.{statement}
 use Rattle.frame.proofs.octet_chips.Tie as tie
 
-returns : tie.Need-returns
-returns c = rw (c .if1 .taken)
+phy-of-requires : tie.Need-phy-of-requires
+phy-of-requires c κs = search needs
 
-returns-2 : tie.Need-returns-2
-returns-2 c = rw (second _ (c .before .pre) (c .if1 .left))
+mul-result : tie.Need-mul-result
+mul-result c =
+    let z = c .before in
+    let s = z .before in
+    omega (arith, row-octet (s .args .mode) (s .pre) _ (z .phy-of .ensures), few-octet (s .args .mode))
+
+returns : tie.Need-returns
+returns c = let z = c .before in row-octet (z .before .args .mode) (z .before .pre) _ (z .phy-of .ensures)
 
 pub octet-chips-spec : {M : Type 1} → statement M
-octet-chips-spec = tie.close (tie.spec returns returns-2)
+octet-chips-spec = tie.close (tie.spec phy-of-requires mul-result returns)

@@ -1,5 +1,4 @@
--- `sent_symbol` meets its contract: a radio a branch, chained or not. Assumes nothing.
-use Rattle.codes.proofs.Modes.{second}
+-- `sent_symbol` meets its contract: the same test as in the definition. Assumes nothing.
 use borrow.Author.Needs.{needs}
 use Rattle.frame.proofs.sent_symbol.Statement.{statement}
 use Rattle.frame.proofs.sent_symbol.Tie as tie
@@ -11,7 +10,7 @@ returns : tie.Need-returns
 returns c = rw (c .if1 .taken)
 
 returns-2 : tie.Need-returns-2
-returns-2 c = rw (second _ (c .before .pre .0) (c .if1 .left))
+returns-2 c = rw (c .if1 .left)
 
 pub sent-symbol-spec : {M : Type 1} → statement M
 sent-symbol-spec = tie.close (tie.spec add-result returns returns-2)

@@ -5,19 +5,22 @@ use mathlib.Core.Path.{_≡_, refl, ap, _∙_}
 use native.Mathlib.Omega.{arith}
 use borrow.Author.Needs.{needs}
 use lib.ListN.{length, take, drop}
-use Rattle.codes.specs.Numbers.{NOCHIP}
+use borrow.Author.Tests.{eqb-false, not-true}
+use Rattle.codes.specs.Numbers.{DONE, NOCHIP}
 use Rattle.codes.specs.Radio.{radioOf}
+use Rattle.codes.specs.Symbol.{symbolOf}
 use Rattle.codes.proofs.Gathering.{Loop, loop-starts, loop-goes-on, loop-stops, loop-ends}
+use Rattle.frame.proofs.Modes.{row-size}
 use Rattle.reader.specs.Taking.{stopped, followed}
 use Rattle.reader.proofs.Steps.{followed-roomy}
 use Rattle.reader.proofs.Scanning.{Scanning, Turning}
-use Rattle.reader.proofs.Modes.{size-positive, starts, runs-out, part-long, eights-stop, turns}
+use Rattle.reader.proofs.Modes.{size-positive, starts, runs-out, part-long, eights-stop, turns, refusal-ends}
 use Rattle.reader.proofs.scan.Statement.{statement}
 use Rattle.reader.proofs.scan.Tie as tie
 use Rattle.reader.proofs.scan.Reads as reads
 use Rattle.reader.proofs.scan.Lts as lts
-use Rattle.codes.proofs.gather.Reads as gather-reads
-use Rattle.codes.proofs.size_of.Reads as size-of-reads
+use Rattle.codes.proofs.phy_of.Reads as phy-of-reads
+use Rattle.reader.proofs.gather_eight.Reads as gather-eight-reads
 use Rattle.reader.proofs.begin.Reads as begin-reads
 use Rattle.reader.proofs.stop.Reads as stop-reads
 use Rattle.reader.proofs.take_symbol.Reads as take-symbol-reads
@@ -35,16 +38,34 @@ Inv-symbols mode chips room octets₀ size hand₀ at₀ octets hand at = Scanni
 abbrev μ-symbols : tie.MeasureT-symbols
 μ-symbols mode chips room octets₀ size hand₀ at₀ octets hand at = length chips - at
 
--- the state in the loop over a symbol's eights, and after a turn of the loop over symbols
+-- the state in the loop over a symbol's eights, and after one of its turns
 abbrev Eights : Type 0
 Eights =
     lts.At-chips (
-      size-of-reads.Asked,
-      size-of-reads.Learnt,
+      phy-of-reads.Asked,
+      phy-of-reads.Learnt,
       begin-reads.Asked,
       begin-reads.Learnt,
-      gather-reads.Asked,
-      gather-reads.Learnt,
+      gather-eight-reads.Asked,
+      gather-eight-reads.Learnt,
+      stop-reads.Asked,
+      stop-reads.Learnt,
+      take-symbol-reads.Asked,
+      take-symbol-reads.Learnt,
+      settle-reads.Asked,
+      settle-reads.Learnt,
+    )
+    reads.Pre reads.Post Inv-chips μ-chips Inv-symbols μ-symbols
+
+abbrev Taken : Type 0
+Taken =
+    lts.After-take-symbol (
+      phy-of-reads.Asked,
+      phy-of-reads.Learnt,
+      begin-reads.Asked,
+      begin-reads.Learnt,
+      gather-eight-reads.Asked,
+      gather-eight-reads.Learnt,
       stop-reads.Asked,
       stop-reads.Learnt,
       take-symbol-reads.Asked,
@@ -57,12 +78,12 @@ Eights =
 abbrev Turn : Type 0
 Turn =
     lts.After-settle (
-      size-of-reads.Asked,
-      size-of-reads.Learnt,
+      phy-of-reads.Asked,
+      phy-of-reads.Learnt,
       begin-reads.Asked,
       begin-reads.Learnt,
-      gather-reads.Asked,
-      gather-reads.Learnt,
+      gather-eight-reads.Asked,
+      gather-eight-reads.Learnt,
       stop-reads.Asked,
       stop-reads.Learnt,
       take-symbol-reads.Asked,
@@ -73,9 +94,16 @@ Turn =
     reads.Pre reads.Post Inv-chips μ-chips Inv-symbols μ-symbols
 
 -- the part is one symbol long
+size-is : (c : Eights) → c .before .before .before .before .before .phy-of .result .size
+    ≡ radioOf (c .before .before .before .before .before .before .before .args .mode) .size
+size-is c =
+    let q = c .before .before .before in
+    let s = q .before .before .before .before in
+    row-size (s .args .mode) (s .pre .0) _ (q .before .before .phy-of .ensures)
+
 long-part : (c : Eights)
     → length (take
-    (c .before .before .before .symbols .at + c .before .before .before .before .before .size-of .result - c .before .before .before .symbols .at)
+    (c .before .before .before .symbols .at + c .before .before .before .before .before .phy-of .result .size - c .before .before .before .symbols .at)
     (drop (c .before .before .before .symbols .at) (c .before .before .before .before .before .before .before .args .chips .now)))
     ≡ radioOf (c .before .before .before .before .before .before .before .args .mode) .size
 long-part c =
@@ -83,36 +111,39 @@ long-part c =
     let q = i .before in
     let s = q .before .before .before .before in
     part-long (s .args .mode) (s .pre .0) (s .args .room) (s .args .chips .now) (q .symbols .octets) (q .symbols .hand) (q .symbols .at)
-    _ (q .before .before .size-of .ensures) (q .symbols .inv) (i .symbols-test .taken) _ refl
+    _ (size-is c) (q .symbols .inv) (i .symbols-test .taken) _ refl
+
+-- its symbol is taken
+took : (c : Taken) → c .take-symbol .result ≡ followed (c .before .before .before .before .before .before .before .before .before .args .mode) (c .before .before .chips .hand)
+    (symbolOf (radioOf (c .before .before .before .before .before .before .before .before .before .args .mode)) (take
+    (c .before .before .before .before .before .symbols .at + c .before .before .before .before .before .before .before .phy-of .result .size - c .before .before .before .before .before .symbols .at)
+    (drop (c .before .before .before .before .before .symbols .at) (c .before .before .before .before .before .before .before .before .before .args .chips .now))))
+took c =
+    let k = c .before .before in
+    let s = k .before .before .before .before .before .before .before in
+    c .take-symbol .ensures
+    ∙ ap (followed (s .args .mode) (k .chips .hand))
+    (loop-ends (s .args .mode) (s .pre .0) _ (long-part k) _ _ (c .before .chips-test .left) (k .chips .inv .1))
 
 turn : (c : Turn)
-    → Turning (radioOf (c .before .before .before .before .before .before .before .before .before .before .before .args .mode))
-    (c .before .before .before .before .before .before .before .before .before .before .before .args .room)
-    (c .before .before .before .before .before .before .before .before .before .before .before .args .chips .now)
-    (c .settle .last .1 .1 .1 .1 .0) (c .settle .result)
-    (c .before .before .before .before .before .before .before .symbols .at
-    + c .before .before .before .before .before .before .before .before .before .size-of .result)
+    → Turning (radioOf (c .before .before .before .before .before .before .before .before .before .before .before .before .before .args .mode)) (c .before .before .before .before .before .before .before .before .before .before .before .before .before .args .room) (c .before .before .before .before .before .before .before .before .before .before .before .before .before .args .chips .now)
+    (c .settle .last .1 .1 .1 .1 .0) (c .settle .result) (c .before .before .before .before .before .before .before .before .before .symbols .at + c .before .before .before .before .before .before .before .before .before .before .before .phy-of .result .size)
 turn c =
-    let k = c .before .before .before .before in
+    let t = c .before .before .before .before in
+    let k = t .before .before in
     let i = k .before .before in
     let q = i .before in
     let s = q .before .before .before .before in
-    let e = loop-ends (s .args .mode) (s .pre .0) _ (long-part k) _ _ (c .before .before .before .chips-test .left) (k .chips .inv .1) in
     turns (s .args .mode) (s .pre .0) (s .args .room) (s .args .chips .now) (q .symbols .octets) (k .chips .hand) (q .symbols .at) _
-    (q .before .before .size-of .ensures) (rw (k .chips .inv .0) (q .symbols .inv)) (i .symbols-test .taken) _ refl
-    _ (c .before .before .take-symbol .ensures ∙ ap (followed (s .args .mode) (k .chips .hand)) e)
-    _ (c .settle .ensures .0) _ (c .settle .ensures .1)
+    (size-is k) (rw (k .chips .inv .0) (q .symbols .inv)) (i .symbols-test .taken) _ refl _ (took t) _ (c .settle .ensures .0) _ (c .settle .ensures .1)
 
 -- the symbol lies in the buffer
-fits-left : (c : Turn)
-    → c .before .before .before .before .before .before .before .symbols .at
-    + c .before .before .before .before .before .before .before .before .before .size-of .result
-    ≤ length (c .before .before .before .before .before .before .before .before .before .before .before .args .chips .now)
-fits-left c = let i = c .before .before .before .before .before .before in
+fits-left : (c : Turn) → c .before .before .before .before .before .before .before .before .before .symbols .at + c .before .before .before .before .before .before .before .before .before .before .before .phy-of .result .size ≤ length (c .before .before .before .before .before .before .before .before .before .before .before .before .before .args .chips .now)
+fits-left c = let i = c .before .before .before .before .before .before .before .before in
     omega (arith, i .before .symbols .inv .upto, i .symbols-test .taken)
 
-size-of-requires : tie.Need-size-of-requires Inv-chips μ-chips Inv-symbols μ-symbols
-size-of-requires c κs = tt
+phy-of-requires : tie.Need-phy-of-requires Inv-chips μ-chips Inv-symbols μ-symbols
+phy-of-requires c κs = tt
 
 begin-requires : tie.Need-begin-requires Inv-chips μ-chips Inv-symbols μ-symbols
 begin-requires c κs = tt
@@ -141,8 +172,8 @@ chips-holds : tie.Need-chips-holds Inv-chips μ-chips Inv-symbols μ-symbols
 chips-holds c = let s = c .before .before .before .before .before .before in
     (refl, loop-starts (s .args .mode) (s .pre .0) _)
 
-gather-requires : tie.Need-gather-requires Inv-chips μ-chips Inv-symbols μ-symbols
-gather-requires c κs = tt
+gather-eight-requires : tie.Need-gather-eight-requires Inv-chips μ-chips Inv-symbols μ-symbols
+gather-eight-requires c κs = c .before .before .before .before .before .before .before .before .pre .0
 
 stop-requires : tie.Need-stop-requires Inv-chips μ-chips Inv-symbols μ-symbols
 stop-requires c κs = tt
@@ -159,41 +190,44 @@ chips-again c =
     let s = k .before .before .before .before .before .before .before in (
       k .chips .inv .0,
       loop-goes-on (s .args .mode) (s .pre .0) _ (long-part k) _ (c .before .before .chips-test .taken)
-          _ (k .chips .inv .1) _ (c .before .gather .ensures) (c .if1 .left),
+          _ (k .chips .inv .1) _ (c .before .gather-eight .ensures) (c .if1 .left),
     )
 
 take-symbol-requires : tie.Need-take-symbol-requires Inv-chips μ-chips Inv-symbols μ-symbols
 take-symbol-requires c κs = c .before .before .before .before .before .before .before .before .pre .0
 
+stop-requires-2 : tie.Need-stop-requires-2 Inv-chips μ-chips Inv-symbols μ-symbols
+stop-requires-2 c κs = tt
+
 settle-requires : tie.Need-settle-requires Inv-chips μ-chips Inv-symbols μ-symbols
 settle-requires c κs =
-    let q = c .before .before .before .before .before .before in
-    let s = q .before .before .before .before in
-    let k = c .before .before .before in (
+    let t = c .before .before .before in
+    let k = t .before .before in
+    let q = k .before .before .before in
+    let s = q .before .before .before .before in (
       s .pre .0,
-      rw (c .before .take-symbol .ensures)
+      rw (t .take-symbol .ensures)
           (followed-roomy (s .args .mode) (s .args .room) (k .chips .hand) (rw (k .chips .inv .0) (q .symbols .inv .sofar .goes .fits)) _),
     )
 
 add-at : tie.Need-add-at Inv-chips μ-chips Inv-symbols μ-symbols
-add-at c = let s = c .before .before .before .before .before .before .before .before .before .before .before .before .before in
-    omega (arith, fits-left (c .before .before), s .good)
+add-at c = omega (arith, fits-left (c .before .before), c .before .before .before .before .before .before .before .before .before .before .before .before .before .before .before .good)
 
 symbols-less : tie.Need-symbols-less Inv-chips μ-chips Inv-symbols μ-symbols
 symbols-less c =
-    let q = c .before .before .before .before .before .before .before .before .before in
-    let s = q .before .before .before .before in
-    omega (arith, fits-left (c .before .before), size-positive (s .args .mode) _ (s .pre .0) (q .before .before .size-of .ensures))
+    let k = c .before .before .before .before .before .before .before .before in
+    let s = k .before .before .before .before .before .before .before in
+    omega (arith, fits-left (c .before .before), size-positive (s .args .mode) _ (size-is k))
 
 symbols-again : tie.Need-symbols-again Inv-chips μ-chips Inv-symbols μ-symbols
-symbols-again c = turn (c .before .before) .0 (c .if2 .left)
+symbols-again c = turn (c .before .before) .0 (c .if4 .left)
 
 returns : tie.Need-returns Inv-chips μ-chips Inv-symbols μ-symbols
 returns c =
     let q = c .before in
     let s = q .before .before .before .before in
     runs-out (s .args .mode) (s .pre .0) (s .args .room) (s .args .chips .now) _ _
-    _ _ (q .before .before .size-of .ensures) (q .symbols .inv) (c .symbols-test .left)
+    _ _ (row-size (s .args .mode) (s .pre .0) _ (q .before .before .phy-of .ensures)) (q .symbols .inv) (c .symbols-test .left)
 
 returns-2 : tie.Need-returns-2 Inv-chips μ-chips Inv-symbols μ-symbols
 returns-2 c =
@@ -202,13 +236,25 @@ returns-2 c =
     let q = i .before in
     let s = q .before .before .before .before in
     eights-stop (s .args .mode) (s .pre .0) (s .args .room) (s .args .chips .now) (q .symbols .octets) (q .symbols .hand) (q .symbols .at)
-    _ (q .before .before .size-of .ensures) (q .symbols .inv) (i .symbols-test .taken) _ refl
+    _ (size-is k) (q .symbols .inv) (i .symbols-test .taken) _ refl
     (loop-stops (s .args .mode) (s .pre .0) _ (long-part k) _ (c .before .before .before .chips-test .taken)
-    _ (k .chips .inv .1) _ (c .before .before .gather .ensures) (c .before .if1 .taken))
+    _ (k .chips .inv .1) _ (c .before .before .gather-eight .ensures) (c .before .if1 .taken))
     _ (c .stop .ensures ∙ ap (stopped NOCHIP) (k .chips .inv .0))
 
 returns-3 : tie.Need-returns-3 Inv-chips μ-chips Inv-symbols μ-symbols
-returns-3 c = turn (c .before .before) .1 (c .if2 .taken)
+returns-3 c =
+    let t = c .before .before .before .before .before in
+    let k = t .before .before in
+    let i = k .before .before in
+    let q = i .before in
+    let s = q .before .before .before .before in
+    refusal-ends (s .args .mode) (s .pre .0) (s .args .room) (s .args .chips .now) (q .symbols .octets) (k .chips .hand) (q .symbols .at)
+    _ (size-is k) (rw (k .chips .inv .0) (q .symbols .inv)) (i .symbols-test .taken) _ refl
+    _ (took t) (c .before .before .before .if2 .taken) (eqb-false (t .take-symbol .result .number) DONE (not-true _ (c .before .if3 .taken)))
+    _ (c .stop2 .ensures)
+
+returns-4 : tie.Need-returns-4 Inv-chips μ-chips Inv-symbols μ-symbols
+returns-4 c = turn (c .before .before) .1 (c .if4 .taken)
 
 pub scan-spec : {M : Type 1} → statement M
 scan-spec =
@@ -218,7 +264,7 @@ scan-spec =
     μ-chips
     Inv-symbols
     μ-symbols
-    size-of-requires
+    phy-of-requires
     begin-requires
     symbols-holds
     sub-symbols
@@ -227,16 +273,18 @@ scan-spec =
     part-part-start
     part-part-end
     chips-holds
-    gather-requires
+    gather-eight-requires
     stop-requires
     add-k
     chips-less
     chips-again
     take-symbol-requires
+    stop-requires-2
     settle-requires
     add-at
     symbols-less
     symbols-again
     returns
     returns-2
-    returns-3)
+    returns-3
+    returns-4)

@@ -1,30 +1,69 @@
 -- `take_symbol` meets its contract: a radio a branch. Assumes nothing.
 use mathlib.Core.Path.{ap, _∙_}
-use Rattle.codes.proofs.Modes.{second}
+use Rattle.codes.specs.Near.{judgedAt}
+use Rattle.codes.proofs.Modes.{third}
+use Rattle.codes.proofs.Judging.{near-symbol}
 use Rattle.reader.specs.Taking.{followed}
 use borrow.Author.Needs.{needs}
 use Rattle.reader.proofs.take_symbol.Statement.{statement}
 use Rattle.reader.proofs.take_symbol.Tie as tie
 
-matched-requires : tie.Need-matched-requires
-matched-requires c κs = search needs
+nearest-requires : tie.Need-nearest-requires
+nearest-requires c κs = search needs
+
+judge-requires : tie.Need-judge-requires
+judge-requires c κs = search needs
 
 follow-requires : tie.Need-follow-requires
 follow-requires c κs = search needs
 
 returns : tie.Need-returns
 returns c =
-    rw (c .before .before .if1 .taken) (c .follow .ensures ∙ ap (followed 0 _) (c .before .matched .ensures))
+    rw (c .before .before .before .if1 .taken)
+    (c .follow .ensures ∙ ap (followed 0 _) (c .before .judge .ensures ∙ ap (judgedAt 0) (c .before .before .nearest .ensures) ∙ near-symbol 0 _))
 
-matched-requires-2 : tie.Need-matched-requires-2
-matched-requires-2 c κs = search needs
+nearest-requires-2 : tie.Need-nearest-requires-2
+nearest-requires-2 c κs = search needs
+
+judge-requires-2 : tie.Need-judge-requires-2
+judge-requires-2 c κs = search needs
 
 follow-requires-2 : tie.Need-follow-requires-2
 follow-requires-2 c κs = search needs
 
 returns-2 : tie.Need-returns-2
 returns-2 c =
-    rw (second _ (c .before .before .before .pre) (c .before .before .if1 .left)) (c .follow2 .ensures ∙ ap (followed 1 _) (c .before .matched2 .ensures))
+    rw (c .before .before .before .if2 .taken)
+    (c .follow2 .ensures ∙ ap (followed 1 _) (c .before .judge2 .ensures ∙ ap (judgedAt 1) (c .before .before .nearest2 .ensures) ∙ near-symbol 1 _))
+
+nearest-requires-3 : tie.Need-nearest-requires-3
+nearest-requires-3 c κs = search needs
+
+judge-requires-3 : tie.Need-judge-requires-3
+judge-requires-3 c κs = search needs
+
+follow-requires-3 : tie.Need-follow-requires-3
+follow-requires-3 c κs = search needs
+
+returns-3 : tie.Need-returns-3
+returns-3 c =
+    let s = c .before .before .before .before .before in
+    rw (third (s .args .mode) (s .pre) (c .before .before .before .before .if1 .left) (c .before .before .before .if2 .left))
+    (c .follow3 .ensures ∙ ap (followed 2 _) (c .before .judge3 .ensures ∙ ap (judgedAt 2) (c .before .before .nearest3 .ensures) ∙ near-symbol 2 _))
 
 pub take-symbol-spec : {M : Type 1} → statement M
-take-symbol-spec = tie.close (tie.spec matched-requires follow-requires returns matched-requires-2 follow-requires-2 returns-2)
+take-symbol-spec =
+    tie.close
+    (tie.spec
+    nearest-requires
+    judge-requires
+    follow-requires
+    returns
+    nearest-requires-2
+    judge-requires-2
+    follow-requires-2
+    returns-2
+    nearest-requires-3
+    judge-requires-3
+    follow-requires-3
+    returns-3)

@@ -1,10 +1,12 @@
 -- `read_part` meets its contract: the bits are those of the eights so far (Gathering.antt of
 -- `codes`, as for the reader's loop). Assumes nothing.
 use Prim.Native.Nat.{_-_}
-use mathlib.Core.Path.{sym, _∙_}
+use mathlib.Core.Path.{sym, ap, _∙_}
 use native.Mathlib.Omega.{arith}
 use Rattle.codes.specs.Radio.{radioOf}
+use Rattle.codes.specs.Near.{judgedAt}
 use Rattle.codes.proofs.Unique.{nochip-of}
+use Rattle.codes.proofs.Judging.{near-symbol}
 use Rattle.codes.proofs.Gathering.{Loop, loop-starts, loop-goes-on, loop-stops, loop-ends}
 use Rattle.receiver.proofs.read_part.Statement.{statement}
 use Rattle.receiver.proofs.read_part.Tie as tie
@@ -43,15 +45,20 @@ loop-again c =
     loop-goes-on (s .args .mode) (s .pre .0) (s .args .part .now) (s .pre .1)
     _ (c .before .before .loop-test .taken) _ (l .loop .inv) _ (c .before .gather .ensures) (c .if1 .left)
 
-matched-requires : tie.Need-matched-requires Inv-loop μ-loop
-matched-requires c κs = tt
+nearest-requires : tie.Need-nearest-requires Inv-loop μ-loop
+nearest-requires c κs = tt
+
+judge-requires : tie.Need-judge-requires Inv-loop μ-loop
+judge-requires c κs = tt
 
 returns-2 : tie.Need-returns-2 Inv-loop μ-loop
 returns-2 c =
-    let l = c .before .before in
+    let l = c .before .before .before in
     let s = l .before .before in
-    c .matched .ensures
-    ∙ loop-ends (s .args .mode) (s .pre .0) (s .args .part .now) (s .pre .1) _ _ (c .before .loop-test .left) (l .loop .inv)
+    c .judge .ensures
+    ∙ ap (judgedAt (s .args .mode)) (c .before .nearest .ensures)
+    ∙ near-symbol (s .args .mode) _
+    ∙ loop-ends (s .args .mode) (s .pre .0) (s .args .part .now) (s .pre .1) _ _ (c .before .before .loop-test .left) (l .loop .inv)
 
 pub read-part-spec : {M : Type 1} → statement M
 read-part-spec =
@@ -65,5 +72,6 @@ read-part-spec =
     add-k
     loop-less
     loop-again
-    matched-requires
+    nearest-requires
+    judge-requires
     returns-2)

@@ -10,8 +10,8 @@ use Rattle.send.proofs.main.Tie as tie
 asked-mode-requires : tie.Need-asked-mode-requires
 asked-mode-requires c κs = search needs
 
-size-of-requires : tie.Need-size-of-requires
-size-of-requires c κs = search needs
+phy-of-requires : tie.Need-phy-of-requires
+phy-of-requires c κs = search needs
 
 complain-requires : tie.Need-complain-requires
 complain-requires c κs = search needs
@@ -86,7 +86,7 @@ main-spec =
     tie.close
     (tie.spec
     asked-mode-requires
-    size-of-requires
+    phy-of-requires
     complain-requires
     returns
     slice-aggregate-read-all

@@ -1,22 +1,22 @@
 -- `apart` meets its contract: no digit carries, so the sum of the digits is the distance
 -- (Bits.antt). Assumes nothing.
-use mathlib.Core.Path.{refl, _∙_}
+use mathlib.Core.Path.{_∙_}
 use native.Mathlib.Omega.{arith}
-use Rattle.codes.proofs.Bits.{sum-fits, sum-apart, few}
+use Rattle.codes.proofs.Bits.{wrong-fits, sum-fits, sum-apart, few}
 use borrow.Author.Needs.{needs}
 use Rattle.codes.proofs.fifteen.apart.Statement.{statement}
 use Rattle.codes.proofs.fifteen.apart.Tie as tie
 
 add-digit-sum : tie.Need-add-digit-sum
-add-digit-sum c = omega (arith, sum-fits (c .args .bits) (c .fits .bits .fits) _ _ refl refl)
+add-digit-sum c = omega (arith, sum-fits _ (wrong-fits (c .before .args .bits) (c .before .fits .bits .fits)))
 
 digit-sum-requires : tie.Need-digit-sum-requires
 digit-sum-requires c κs = search needs
 
 returns : tie.Need-returns
 returns c =
-    let s = c .before in
-    let e = c .digit-sum .ensures ∙ sum-apart (s .args .bits) (s .fits .bits .fits) _ _ refl refl in
+    let s = c .before .before in
+    let e = c .digit-sum .ensures ∙ sum-apart (s .args .bits) (s .fits .bits .fits) in
     (e, few (s .args .bits) (s .fits .bits .fits) _ e)
 
 pub apart-spec : {M : Type 1} → statement M

@@ -1,78 +1,63 @@
--- `chip` meets its contract: one test of each chip of a radio's first half (Runs.antt).
--- Assumes nothing.
-use mathlib.Core.Path.{_≡_}
+-- `chip` meets its contract: it computes what the definition says, and the place is one of 64 bits
+-- (Runs.antt). Assumes nothing.
+use mathlib.Core.Path.{refl}
+use Prim.Native.Nat.{ℕ, _*_, _/_, _%_, _≤_}
+use native.Mathlib.Nat.{mod-lt}
 use native.Mathlib.Omega.{arith}
-use borrow.Author.Tests.{ltb-true}
+use Rattle.codes.specs.declared.Phy.{Phy}
+use Rattle.codes.specs.Strip.{Fits, chipOf}
+use Rattle.codes.proofs.Runs.{place-few}
 use borrow.Author.Needs.{needs}
-use Rattle.codes.proofs.Runs.{column-chip, front-chip, back-chip}
 use Rattle.codes.proofs.strips.chip.Statement.{statement}
 use Rattle.codes.proofs.strips.chip.Tie as tie
-use Rattle.codes.proofs.strips.chip.Reads as reads
-use Rattle.codes.proofs.strips.chip.Lts as lts
 
--- past the test of mode 1 the mode is 0
-bit-mode : (c : lts.Else1 reads.Pre reads.Post) → c .before .args .mode ≡ 0
-bit-mode c = omega (arith, ltb-true (c .before .args .mode) 2 (c .before .pre .0), c .if1 .left)
+-- at the index that the code works out
+placed : (p : Phy) → Fits p → (i : ℕ) → (i % (8 * p .eights) / 8 * p .step ≤ 24) × (i % (8 * p .eights) / 8 * p .step ≤ i % (8 * p .eights))
+    × (i % (8 * p .eights) / 8 * p .lift ≤ 7)
+placed p F i = place-few p F (i % (8 * p .eights)) (mod-lt i (omega (arith, F .some)))
 
-cast-result : tie.Need-cast-result
-cast-result c = search needs
+mul-j : tie.Need-mul-j
+mul-j c = omega (arith, c .before .pre .few)
+
+rem-j : tie.Need-rem-j
+rem-j c = omega (arith, c .before .pre .some)
 
 mul-result : tie.Need-mul-result
-mul-result c = search needs
+mul-result c = let s = c .before .before in omega (arith, placed (s .args .phy) (s .pre) (s .args .i) .0)
 
-add-result : tie.Need-add-result
-add-result c = search needs
-
-shr-result : tie.Need-shr-result
-shr-result c = search needs
-
-cast-result-2 : tie.Need-cast-result-2
-cast-result-2 c = search needs
-
-returns : tie.Need-returns
-returns c = rw (c .if1 .taken) (column-chip (c .before .args .i) (rw (c .if1 .taken) at (c .before .pre .1)))
+sub-result : tie.Need-sub-result
+sub-result c = let s = c .before .before in placed (s .args .phy) (s .pre) (s .args .i) .1
 
 mul-result-2 : tie.Need-mul-result-2
 mul-result-2 c = search needs
 
-shr-result-2 : tie.Need-shr-result-2
-shr-result-2 c = search needs
-
-cast-result-3 : tie.Need-cast-result-3
-cast-result-3 c = search needs
-
-returns-2 : tie.Need-returns-2
-returns-2 c = rw (bit-mode (c .before)) (front-chip (c .before .before .args .i) (c .if2 .taken))
-
 mul-result-3 : tie.Need-mul-result-3
-mul-result-3 c = omega (arith, rw (bit-mode (c .before)) at (c .before .before .pre .1))
+mul-result-3 c = let s = c .before .before .before in omega (arith, placed (s .args .phy) (s .pre) (s .args .i) .2)
 
-shr-result-3 : tie.Need-shr-result-3
-shr-result-3 c = omega (arith, rw (bit-mode (c .before)) at (c .before .before .pre .1), c .if2 .left)
+add-result : tie.Need-add-result
+add-result c = let s = c .before .before .before in omega (arith, placed (s .args .phy) (s .pre) (s .args .i) .2)
 
-cast-result-4 : tie.Need-cast-result-4
-cast-result-4 c = search needs
+shr-result : tie.Need-shr-result
+shr-result c = let s = c .before .before .before .before in omega (arith, placed (s .args .phy) (s .pre) (s .args .i) .2)
 
-returns-3 : tie.Need-returns-3
-returns-3 c =
-    rw (bit-mode (c .before))
-    (back-chip (c .before .before .args .i) (c .if2 .left) (rw (bit-mode (c .before)) at (c .before .before .pre .1)))
+cast-result : tie.Need-cast-result
+cast-result c = search needs
+
+returns : tie.Need-returns
+unfolding chipOf
+returns c = refl
 
 pub chip-spec : {M : Type 1} → statement M
 chip-spec =
     tie.close
     (tie.spec
-    cast-result
+    mul-j
+    rem-j
     mul-result
+    sub-result
+    mul-result-2
+    mul-result-3
     add-result
     shr-result
-    cast-result-2
-    returns
-    mul-result-2
-    shr-result-2
-    cast-result-3
-    returns-2
-    mul-result-3
-    shr-result-3
-    cast-result-4
-    returns-3)
+    cast-result
+    returns)

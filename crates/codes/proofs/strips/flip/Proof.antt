@@ -1,5 +1,5 @@
--- `flip` meets its contract: a radio a branch. Assumes nothing.
-use Rattle.codes.proofs.Modes.{second}
+-- `flip` meets its contract: the same test as in the definition. Assumes nothing.
+use Rattle.codes.proofs.Tests.{tests}
 use borrow.Author.Needs.{needs}
 use Rattle.codes.proofs.strips.flip.Statement.{statement}
 use Rattle.codes.proofs.strips.flip.Tie as tie
@@ -8,10 +8,10 @@ cast-result : tie.Need-cast-result
 cast-result c = search needs
 
 returns : tie.Need-returns
-returns c = search needs
+returns c = search (tests, needs)
 
 returns-2 : tie.Need-returns-2
-returns-2 c = rw (second _ (c .before .pre) (c .if1 .left))
+returns-2 c = search (tests, needs)
 
 pub flip-spec : {M : Type 1} → statement M
 flip-spec = tie.close (tie.spec cast-result returns returns-2)

@@ -1,45 +1,61 @@
--- `row_of` meets its contract: a mode a branch. Assumes nothing.
-use borrow.Author.Needs.{needs}
+-- `row_of` meets its contract: it computes what the definition says, in numbers that fit
+-- (Runs.antt). Assumes nothing.
+use mathlib.Core.Path.{refl}
+use native.Mathlib.Omega.{arith}
+use borrow.Author.Tests.{le-leb, lt-leb}
 use Rattle.codes.specs.Strip.{rowAt}
-use Rattle.codes.proofs.Runs.{no-row}
+use Rattle.codes.proofs.Runs.{phy-few, row-few}
+use borrow.Author.Needs.{needs}
 use Rattle.codes.proofs.strips.row_of.Statement.{statement}
 use Rattle.codes.proofs.strips.row_of.Tie as tie
 
-mul-result : tie.Need-mul-result
-mul-result c = search needs
+phy-of-requires : tie.Need-phy-of-requires
+phy-of-requires c κs = search needs
 
 returns : tie.Need-returns
 unfolding rowAt
-returns c = rw (c .if1 .taken)
+returns c = let z = c .before .before in rw (← z .phy-of .ensures, le-leb _ _ (c .if1 .taken))
+
+mul-result : tie.Need-mul-result
+mul-result c = omega (arith, phy-few _ (c .before .before .before .before .phy-of .result) (c .before .before .before .before .phy-of .ensures) .0)
+
+div-result : tie.Need-div-result
+div-result c = row-few _ (c .before .before .before .before .phy-of .result) (c .before .before .before .before .phy-of .ensures) _ (c .before .before .if1 .left) .some
 
 mul-result-2 : tie.Need-mul-result-2
-mul-result-2 c = search needs
-
-add-result : tie.Need-add-result
-add-result c = search needs
+mul-result-2 c = let r = row-few _ (c .before .before .before .before .phy-of .result) (c .before .before .before .before .phy-of .ensures) _ (c .before .before .if1 .left) in omega (arith, r .half)
 
 mul-result-3 : tie.Need-mul-result-3
-mul-result-3 c = search needs
+mul-result-3 c = omega (arith, phy-few _ (c .before .before .before .before .before .phy-of .result) (c .before .before .before .before .before .phy-of .ensures) .0)
+
+add-result : tie.Need-add-result
+add-result c = let r = row-few _ (c .before .before .before .before .before .phy-of .result) (c .before .before .before .before .before .phy-of .ensures) _ (c .before .before .before .if1 .left) in omega (arith, phy-few _ (c .before .before .before .before .before .phy-of .result) (c .before .before .before .before .before .phy-of .ensures) .0, r .half)
+
+rem-result : tie.Need-rem-result
+rem-result c = row-few _ (c .before .before .before .before .before .phy-of .result) (c .before .before .before .before .before .phy-of .ensures) _ (c .before .before .before .if1 .left) .some
+
+mul-result-4 : tie.Need-mul-result-4
+mul-result-4 c = let r = row-few _ (c .before .before .before .before .before .before .phy-of .result) (c .before .before .before .before .before .before .phy-of .ensures) _ (c .before .before .before .before .if1 .left) in omega (arith, phy-few _ (c .before .before .before .before .before .before .phy-of .result) (c .before .before .before .before .before .before .phy-of .ensures) .0, r .turn)
 
 sub-result : tie.Need-sub-result
-sub-result c = search needs
+sub-result c = let r = row-few _ (c .before .before .before .before .before .before .phy-of .result) (c .before .before .before .before .before .before .phy-of .ensures) _ (c .before .before .before .before .if1 .left) in omega (arith, r .turn)
 
 returns-2 : tie.Need-returns-2
 unfolding rowAt
-returns-2 c = rw (c .if2 .taken)
-
-returns-3 : tie.Need-returns-3
-returns-3 c = no-row _ _ (c .before .if1 .left) (c .if2 .left)
+returns-2 c = let z = c .before .before .before .before .before .before in rw (← z .phy-of .ensures, lt-leb _ _ (c .before .before .before .before .if1 .left))
 
 pub row-of-spec : {M : Type 1} → statement M
 row-of-spec =
     tie.close
     (tie.spec
-    mul-result
+    phy-of-requires
     returns
+    mul-result
+    div-result
     mul-result-2
-    add-result
     mul-result-3
+    add-result
+    rem-result
+    mul-result-4
     sub-result
-    returns-2
-    returns-3)
+    returns-2)

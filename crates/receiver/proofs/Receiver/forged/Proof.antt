@@ -8,7 +8,8 @@ use native.Mathlib.Nat.{mul-le-mul-right}
 use native.Mathlib.Omega.{arith}
 use borrow.Author.Tests.{eqb-true, eqb-false, not-true, not-false}
 use Rattle.codes.specs.Numbers.{DONE, MORE}
-use Rattle.frame.proofs.Modes.{per-sized, per-sizeless, per-few}
+use Rattle.codes.proofs.Modes.{phy-sizeless}
+use Rattle.frame.proofs.Modes.{row-sized, row-limit, per-few}
 use Rattle.receiver.specs.Record.{forged}
 use Rattle.receiver.proofs.Ways.{
   limit-few,
@@ -26,47 +27,40 @@ use Rattle.receiver.proofs.Receiver.forged.Statement.{statement}
 use Rattle.receiver.proofs.Receiver.forged.Tie as tie
 use Rattle.receiver.proofs.Receiver.forged.Reads as reads
 use Rattle.receiver.proofs.Receiver.forged.Lts as lts
-use Rattle.codes.proofs.limit_of.Reads as limit-of-reads
-use Rattle.frame.proofs.per_octet.Reads as per-octet-reads
+use Rattle.codes.proofs.phy_of.Reads as phy-of-reads
 
 -- past the test of the number, the record is open or ended well
-going : (c : lts.Joined1 (per-octet-reads.Asked, per-octet-reads.Learnt, limit-of-reads.Asked, limit-of-reads.Learnt) reads.Pre reads.Post)
+going : (c : lts.Joined1 (phy-of-reads.Asked, phy-of-reads.Learnt) reads.Pre reads.Post)
     → (c .before .before .args .self .ended ≡ MORE) ⊎ (c .before .before .args .self .ended ≡ DONE)
 going c = ⊎-elim (λ w. inr (eqb-true _ DONE (not-false _ (w .2 .left)))) (λ w. inl (w .left)) (c .if1 .came)
 
 -- where the tests before it are passed, the last one decides
-tested : (c : lts.After-struct-known7 (per-octet-reads.Asked, per-octet-reads.Learnt, limit-of-reads.Asked, limit-of-reads.Learnt) reads.Pre reads.Post)
-    → forged (c .before .before .before .before .before .before .before .before .before .before .before .before .args .self)
-    ≡ number-of-symbols (c .before .before .before .before .before .before .before .before .before .before .before .before .args .self)
-    (c .before .before .before .before .before .before .before .before .before .per-octet .result)
+tested : (c : lts.After-struct-known10 (phy-of-reads.Asked, phy-of-reads.Learnt) reads.Pre reads.Post)
+    → forged (c .before .before .before .before .before .before .before .before .before .before .before .before .before .before .args .self) ≡ number-of-symbols (c .before .before .before .before .before .before .before .before .before .before .before .before .before .before .args .self) (c .before .before .before .before .before .before .before .before .before .before .before .phy-of .result .per)
 tested c =
-    let p = c .before .before .before .before .before .before .before .before .before in
+    let p = c .before .before .before .before .before .before .before .before .before .before .before in
     let s = p .before .before .before .args .self in
-    let k = per-sized (s .mode) _ (p .per-octet .ensures) (c .before .before .before .before .before .before .before .before .if3 .left) in
-    last-test s (going (p .before)) (k .0) (c .before .before .before .before .before .before .if4 .left)
-    _ (c .before .before .before .before .before .limit-of .ensures) (c .before .before .if5 .left) _ (k .1)
+    let k = row-sized (s .mode) _ (p .phy-of .ensures) (c .before .before .before .before .before .before .before .before .before .if3 .left) in
+    last-test s (going (p .before)) (k .0) (c .before .before .before .before .before .before .before .if4 .left) _ (row-limit (s .mode) (k .0) _ (p .phy-of .ensures)) (c .before .before .before .if5 .left) _ (k .1)
 
 returns : tie.Need-returns
 returns c = let s = c .before .before .before .before .args .self in
     forged-refused s (c .before .before .if1 .taken) (eqb-false (s .ended) DONE (not-true _ (c .if2 .taken)))
 
-per-octet-requires : tie.Need-per-octet-requires
-per-octet-requires c κs = search needs
+phy-of-requires : tie.Need-phy-of-requires
+phy-of-requires c κs = search needs
 
 returns-2 : tie.Need-returns-2
-returns-2 c = let p = c .before in
+returns-2 c = let p = c .before .before in
     let s = p .before .before .before .args .self in
-    forged-no-radio s (going (p .before)) (per-sizeless (s .mode) _ (p .per-octet .ensures) (c .if3 .taken))
+    forged-no-radio s (going (p .before)) (phy-sizeless (s .mode) _ (p .phy-of .ensures) (c .if3 .taken))
 
 returns-3 : tie.Need-returns-3
 returns-3 c =
-    let p = c .before .before .before in
+    let p = c .before .before .before .before in
     let s = p .before .before .before .args .self in
-    let k = per-sized (s .mode) _ (p .per-octet .ensures) (c .before .before .if3 .left) in
+    let k = row-sized (s .mode) _ (p .phy-of .ensures) (c .before .before .if3 .left) in
     forged-long s (going (p .before)) (k .0) (c .if4 .taken)
-
-limit-of-requires : tie.Need-limit-of-requires
-limit-of-requires c κs = search needs
 
 cast-if5 : tie.Need-cast-if5
 cast-if5 c = search needs
@@ -76,18 +70,19 @@ cast-if5-2 c = search needs
 
 mul-if5 : tie.Need-mul-if5
 mul-if5 c =
-    let s = c .before .before .before .before .before .before .before .before .args .self in
-    omega (arith, mul-le-mul-right (s .taken) (limit-few (s .mode) _ (c .before .limit-of .ensures)))
+    let p = c .before .before .before .before .before .before in
+    let s = p .before .before .before .args .self in
+    omega (arith, mul-le-mul-right (s .taken) (limit-few (s .mode) _ (p .phy-of .ensures)))
 
 cast-if5-3 : tie.Need-cast-if5-3
 cast-if5-3 c = search needs
 
 returns-4 : tie.Need-returns-4
 returns-4 c =
-    let p = c .before .before .before .before .before .before .before in
+    let p = c .before .before .before .before .before .before .before .before in
     let s = p .before .before .before .args .self in
-    let k = per-sized (s .mode) _ (p .per-octet .ensures) (c .before .before .before .before .before .before .if3 .left) in
-    forged-count s (going (p .before)) (k .0) (c .before .before .before .before .if4 .left) _ (c .before .before .before .limit-of .ensures) (c .if5 .taken)
+    let k = row-sized (s .mode) _ (p .phy-of .ensures) (c .before .before .before .before .before .before .if3 .left) in
+    forged-count s (going (p .before)) (k .0) (c .before .before .before .before .if4 .left) _ (row-limit (s .mode) (k .0) _ (p .phy-of .ensures)) (c .if5 .taken)
 
 cast-total : tie.Need-cast-total
 cast-total c = search needs
@@ -97,9 +92,9 @@ add-total c = search needs
 
 mul-total : tie.Need-mul-total
 mul-total c =
-    let p = c .before .before .before .before .before .before .before .before in
+    let p = c .before .before .before .before .before .before .before .before .before .before in
     let s = p .before .before .before .args .self in
-    omega (arith, mul-le-mul-right (6 + s .length) (per-few (s .mode) _ (p .per-octet .ensures)), c .before .before .before .before .before .if4 .left)
+    omega (arith, mul-le-mul-right (6 + s .length) (per-few (s .mode) _ (p .phy-of .ensures)), c .before .before .before .before .before .before .if4 .left)
 
 cast-result : tie.Need-cast-result
 cast-result c = search needs
@@ -118,10 +113,9 @@ forged-spec =
     tie.close
     (tie.spec
     returns
-    per-octet-requires
+    phy-of-requires
     returns-2
     returns-3
-    limit-of-requires
     cast-if5
     cast-if5-2
     mul-if5

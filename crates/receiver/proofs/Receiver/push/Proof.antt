@@ -26,37 +26,37 @@ returns-2 c = let f = c .before .before .before .before in
     ∙ push-ended (f .before .before .args .self) (f .before .before .args .part .now)
     (sym (f .forged .ensures) ∙ c .before .before .before .if1 .left) (c .before .if2 .taken)
 
-size-of-requires : tie.Need-size-of-requires
-size-of-requires c κs = search needs
+phy-of-requires : tie.Need-phy-of-requires
+phy-of-requires c κs = search needs
 
 answer-requires-3 : tie.Need-answer-requires-3
 answer-requires-3 c κs = search needs
 
 returns-3 : tie.Need-returns-3
-returns-3 c = let f = c .before .before .before .before .before .before in
+returns-3 c = let f = c .before .before .before .before .before .before .before in
     c .answer3 .ensures
     ∙ push-part (f .before .before .args .self) (f .before .before .args .part .now)
-    (sym (f .forged .ensures) ∙ c .before .before .before .before .before .if1 .left)
-    (c .before .before .before .if2 .left) _ (c .before .before .size-of .ensures) (c .before .if3 .taken)
+    (sym (f .forged .ensures) ∙ c .before .before .before .before .before .before .if1 .left)
+    (c .before .before .before .before .if2 .left) _ (c .before .before .before .phy-of .ensures) (c .before .if3 .taken)
 
 read-by-mode-requires : tie.Need-read-by-mode-requires
 read-by-mode-requires c κs =
-    let f = c .before .before .before .before .before in
+    let f = c .before .before .before .before .before .before in
     let a = f .before .before .args in
-    part-whole (a .self) (a .part .now) (sym (f .forged .ensures) ∙ c .before .before .before .before .if1 .left)
-    (c .before .before .if2 .left) _ (c .before .size-of .ensures) (c .if3 .left)
+    part-whole (a .self) (a .part .now) (sym (f .forged .ensures) ∙ c .before .before .before .before .before .if1 .left)
+    (c .before .before .before .if2 .left) _ (c .before .before .phy-of .ensures) (c .if3 .left)
 
 follow-requires : tie.Need-follow-requires
 follow-requires c κs = search needs
 
 returns-4 : tie.Need-returns-4
 returns-4 c =
-    let f = c .before .before .before .before .before .before .before in
+    let f = c .before .before .before .before .before .before .before .before in
     let a = f .before .before .args in
     c .follow .ensures
     ∙ ap (λ (x : Symbol). tookSymbol (a .self) x) (c .before .read-by-mode .ensures)
-    ∙ push-symbol (a .self) (a .part .now) (sym (f .forged .ensures) ∙ c .before .before .before .before .before .before .if1 .left)
-    (c .before .before .before .before .if2 .left) _ (c .before .before .before .size-of .ensures) (c .before .before .if3 .left)
+    ∙ push-symbol (a .self) (a .part .now) (sym (f .forged .ensures) ∙ c .before .before .before .before .before .before .before .if1 .left)
+    (c .before .before .before .before .before .if2 .left) _ (c .before .before .before .before .phy-of .ensures) (c .before .before .if3 .left)
 
 pub push-spec : {M : Type 1} → statement M
 push-spec =
@@ -67,7 +67,7 @@ push-spec =
     returns
     answer-requires-2
     returns-2
-    size-of-requires
+    phy-of-requires
     answer-requires-3
     returns-3
     read-by-mode-requires
