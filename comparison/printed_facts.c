@@ -1,6 +1,7 @@
 /*
- * The reference held to document 01's own numbers: the rows of the code table as printed, the facts
- * that the work stands on, the bench sheet A to L, and what 01 gives for running and comparing.
+ * The reference held to the documents' own numbers: the rows of the code tables as printed, the
+ * facts that the work stands on, the bench sheet A to L, what 01 gives for running and comparing,
+ * and what 02 gives for the third radio.
  */
 #include "printed_facts.h"
 
@@ -14,7 +15,7 @@ static int all_hold;
 static void fact(const char *name, int holds)
 {
     if (!holds)
-        printf("the reference breaks a fact of document 01: %s\n", name);
+        printf("the reference breaks a printed fact: %s\n", name);
     all_hold = all_hold && holds;
 }
 
@@ -27,51 +28,75 @@ static uint32_t apart(const uint8_t *a, const uint8_t *b, uint32_t length)
     return places;
 }
 
-static uint32_t words_apart(uint32_t a, uint32_t b)
+static uint32_t words_apart(uint32_t mode, uint32_t a, uint32_t b)
 {
-    return apart(reference_word(1, a), reference_word(1, b), 32);
+    return apart(reference_word(mode, a), reference_word(mode, b), reference_chips(mode));
 }
 
 /* Source document 002, Table 4-3, without rows 0, 1, 2 and 6, which are printed wrong. */
-static void printed_rows(void)
+static const char *const rows_of_002[16] = {
+    NULL, NULL, NULL, "00100010111011011001110000110101",
+    "01010010001011101101100111000011", "00110101001000101110110110011100",
+    NULL, "10011100001101010010001011101101",
+    "10001100100101100000011101111011", "10111000110010010110000001110111",
+    "01111011100011001001011000000111", "01110111101110001100100101100000",
+    "00000111011110111000110010010110", "01100000011101111011100011001001",
+    "10010110000001110111101110001100", "11001001011000000111011110111000"
+};
+
+/* Source document 000, Table 32, without rows 0 to 3 and 9 to 11, which have a chip too many. */
+static const char *const rows_of_000[16] = {
+    NULL, NULL, NULL, NULL, "0010010100111110", "1000100101001111", "1110001001010011", "1111100010010100",
+    "0110101101110000", NULL, NULL, NULL, "0111000001101011", "1101110000011010", "1011011100000110", "1010110111000001"
+};
+
+static void printed_rows(uint32_t mode, const char *const *rows)
 {
-    static const char *const rows[16] = {
-        NULL, NULL, NULL, "00100010111011011001110000110101",
-        "01010010001011101101100111000011", "00110101001000101110110110011100",
-        NULL, "10011100001101010010001011101101",
-        "10001100100101100000011101111011", "10111000110010010110000001110111",
-        "01111011100011001001011000000111", "01110111101110001100100101100000",
-        "00000111011110111000110010010110", "01100000011101111011100011001001",
-        "10010110000001110111101110001100", "11001001011000000111011110111000"
-    };
     uint32_t w, c;
 
     for (w = 0; w < 16; w++)
-        for (c = 0; rows[w] != NULL && c < 32; c++)
-            fact("rows as printed", reference_word(1, w)[c] == rows[w][c] - '0');
+        for (c = 0; rows[w] != NULL && c < reference_chips(mode); c++)
+            fact("rows as printed", reference_word(mode, w)[c] == rows[w][c] - '0');
+}
+
+static const uint8_t flat[2][32] = {
+    { 0 }, { 1, 1, 1, 1, 1, 1, 1, 1, 1, 1, 1, 1, 1, 1, 1, 1, 1, 1, 1, 1, 1, 1, 1, 1, 1, 1, 1, 1, 1, 1, 1, 1 }
+};
+
+/* A radio of sixteen words: any two are an even number of chips apart, from the least to the most;
+ * flat chips are half a word from each, which so has ones in half of its chips. */
+static void sixteen_words(uint32_t mode, uint32_t least, uint32_t most, const char *pairs, const char *halves)
+{
+    uint32_t chips = reference_chips(mode), a, b;
+
+    for (a = 0; a < 16; a++) {
+        const uint8_t *word = reference_word(mode, a);
+
+        for (b = 0; b < a; b++) {
+            uint32_t places = words_apart(mode, a, b);
+
+            fact(pairs, places >= least && places <= most && places % 2 == 0);
+        }
+        fact(halves, apart(word, flat[0], chips) == chips / 2 && apart(word, flat[1], chips) == chips / 2);
+    }
 }
 
 static void words(void)
 {
-    static const uint8_t flat[2][32] = {
-        { 0 }, { 1, 1, 1, 1, 1, 1, 1, 1, 1, 1, 1, 1, 1, 1, 1, 1, 1, 1, 1, 1, 1, 1, 1, 1, 1, 1, 1, 1, 1, 1, 1, 1 }
-    };
     uint32_t a, b;
 
-    for (a = 0; a < 16; a++)
-        for (b = 0; b < a; b++)
-            fact("12, 14, 16, 18 or 20 apart", words_apart(a, b) >= 12 && words_apart(a, b) <= 20 && words_apart(a, b) % 2 == 0);
-    for (a = 0; a < 16; a++)
-        fact("D", apart(reference_word(1, a), flat[0], 32) == 16 && apart(reference_word(1, a), flat[1], 32) == 16);
-    fact("A", words_apart(0, 9) == 12);
-    fact("B", words_apart(0, 3) == 20);
-    fact("C", words_apart(0, 8) == 16);
-    fact("15 apart", apart(reference_word(0, 0), reference_word(0, 1), 15) == 15);
+    sixteen_words(1, 12, 20, "12, 14, 16, 18 or 20 apart", "D");
+    fact("A", words_apart(1, 0, 9) == 12);
+    fact("B", words_apart(1, 0, 3) == 20);
+    fact("C", words_apart(1, 0, 8) == 16);
+    sixteen_words(2, 6, 10, "6, 8 or 10 apart", "flat chips 8 from each word of mode 2");
+    fact("6, 8 and 10 apart", words_apart(2, 0, 10) == 6 && words_apart(2, 0, 8) == 8 && words_apart(2, 0, 2) == 10);
+    fact("15 apart", words_apart(0, 0, 1) == 15);
     fact("E", apart(reference_word(0, 1), flat[0], 15) == 7 && apart(reference_word(0, 0), flat[0], 15) == 8);
     fact("F", apart(reference_word(0, 0), flat[1], 15) == 7);
-    for (a = 0; a < 2; a++)
+    for (a = 0; a < MODES; a++)
         for (b = 0; b < 2; b++)
-            fact("D, E, F: lost",
+            fact("flat chips are lost",
                 reference_push(reference_start(a).receiver, flat[b], reference_chips(a)).number == LERNAZHUP_LOST);
 }
 
@@ -97,6 +122,8 @@ static void single_symbols(void)
     fact("I", pushed(0, 6) == LERNAZHUP_MORE);
     fact("J", pushed(0, 7) == LERNAZHUP_LOST && pushed(0, 8) == LERNAZHUP_LOST);
     fact("J: nine inverted read as 1", pushed(0, 9) == LERNAZHUP_PREAMBLE);
+    fact("two inverted, mode 2", pushed(2, 2) == LERNAZHUP_MORE);
+    fact("three inverted, mode 2", pushed(2, 3) == LERNAZHUP_LOST);
 }
 
 static int is_reading(lernazhup_reading got, uint32_t number, uint32_t place, uint32_t n, uint32_t count)
@@ -109,30 +136,49 @@ static uint8_t chips[LERNAZHUP_CHIPS_MAX];
 static void start_octet(void)
 {
     static const uint8_t encoded[] = { 1, 0, 1, 1, 1, 0, 0, 1 };
-    uint32_t i;
+    uint32_t mode, i;
 
-    reference_write(1, NULL, 0, chips, sizeof chips);
-    fact("K, mode 1", apart(chips + 8 * 32, reference_word(1, 7), 32) == 0);
-    fact("K, mode 1", apart(chips + 9 * 32, reference_word(1, 10), 32) == 0);
+    for (mode = 1; mode < MODES; mode++) {
+        uint32_t size = reference_chips(mode);
+
+        reference_write(mode, NULL, 0, chips, sizeof chips);
+        fact("K, modes 1 and 2", apart(chips + 8 * size, reference_word(mode, 7), size) == 0);
+        fact("K, modes 1 and 2", apart(chips + 9 * size, reference_word(mode, 10), size) == 0);
+    }
     reference_write(0, NULL, 0, chips, sizeof chips);
     for (i = 0; i < 8; i++)
         fact("K, mode 0", apart(chips + (32 + i) * 15, reference_word(0, encoded[i]), 15) == 0);
 }
 
-static void frames(void)
-{
-    static const uint8_t report[128] = { 1, 2, 3, 4, 5 };
-    uint8_t room[127];
-    uint32_t i;
+static const uint8_t report[128] = { 1, 2, 3, 4, 5 };
 
-    fact("L", reference_write(1, report, 5, chips, sizeof chips).chips == 704);
-    fact("L", reference_write(0, report, 5, chips, sizeof chips).chips == 1320);
-    fact("127 octets, mode 0", reference_write(0, report, 127, chips, 15960).chips == 15960);
-    fact("127 octets, mode 1", reference_write(1, report, 127, chips, 8512).chips == 8512);
-    fact("one chip short, mode 0", reference_write(0, report, 127, chips, 15959).number == LERNAZHUP_NOROOM);
-    fact("one chip short, mode 1", reference_write(1, report, 127, chips, 8511).number == LERNAZHUP_NOROOM);
-    fact("128 octets", reference_write(0, report, 128, chips, sizeof chips).number == LERNAZHUP_TOOLONG);
-    fact("cut by one chip", is_reading(reference_read(1, chips, 8511, room, 127), LERNAZHUP_RUNOUT, 265, 0, 0));
+/* The chips of a frame: so many without a report, and so many more for each octet. The longest is
+ * written into a room exactly long enough, and one short. */
+static void lengths(uint32_t mode, uint32_t empty, uint32_t octet, uint32_t longest)
+{
+    uint32_t n;
+
+    for (n = 0; n < 128; n++)
+        fact("chips of a frame", reference_write(mode, report, n, chips, sizeof chips).chips == empty + octet * n);
+    fact("127 octets", reference_write(mode, report, 127, chips, longest).chips == longest);
+    fact("one chip short", reference_write(mode, report, 127, chips, longest - 1).number == LERNAZHUP_NOROOM);
+    fact("128 octets", reference_write(mode, report, 128, chips, sizeof chips).number == LERNAZHUP_TOOLONG);
+}
+
+static void readings(void)
+{
+    uint8_t room[127];
+    uint32_t mode, i;
+
+    for (mode = 0; mode < MODES; mode++) {
+        fact("no input", is_reading(reference_read(mode, chips, 0, room, 127), LERNAZHUP_RUNOUT, 0, 0, 0));
+        reference_write(mode, report, 5, chips, sizeof chips);
+        fact("reads back", reference_read(mode, chips, sizeof chips, room, 127).n == 5 && memcmp(room, report, 5) == 0);
+    }
+    reference_write(1, report, 127, chips, sizeof chips);
+    fact("cut, mode 1", is_reading(reference_read(1, chips, 8511, room, 127), LERNAZHUP_RUNOUT, 265, 0, 0));
+    reference_write(2, report, 127, chips, sizeof chips);
+    fact("cut, mode 2", is_reading(reference_read(2, chips, 4255, room, 127), LERNAZHUP_RUNOUT, 265, 0, 0));
     reference_write(0, report, 5, chips, sizeof chips);
     for (i = 0; i < 1320; i++)
         chips[i] ^= 1;
@@ -140,17 +186,37 @@ static void frames(void)
     reference_write(1, report, 0, chips, sizeof chips);
     fact("bench, mode 0", is_reading(reference_read(0, chips, 384, room, 127), LERNAZHUP_LOST, 1, 0, 0));
     fact("bench, mode 1", is_reading(reference_read(1, chips, 384, room, 127), LERNAZHUP_DONE, 12, 0, 0));
-    fact("no input, mode 0", is_reading(reference_read(0, chips, 0, room, 127), LERNAZHUP_RUNOUT, 0, 0, 0));
-    fact("no input, mode 1", is_reading(reference_read(1, chips, 0, room, 127), LERNAZHUP_RUNOUT, 0, 0, 0));
+    reference_write(2, report, 0, chips, sizeof chips);
+    fact("empty report, mode 2", is_reading(reference_read(2, chips, 192, room, 127), LERNAZHUP_DONE, 12, 0, 0));
+}
+
+/* A mode above 2 is refused whole; cut to 8 or 16 bits most of these would be a radio's. */
+static void no_radio(void)
+{
+    static const uint32_t modes[] = { 3, 256, 258, 65536, 65538, 0x80000002, 0xFFFFFFFF };
+    uint32_t i;
+
+    for (i = 0; i < sizeof modes / sizeof modes[0]; i++) {
+        fact("1, write", reference_write(modes[i], report, 0, chips, sizeof chips).number == LERNAZHUP_BADMODE);
+        fact("1, read", is_reading(reference_read(modes[i], chips, 192, NULL, 0), LERNAZHUP_BADMODE, 0, 0, 0));
+        fact("1, start", reference_start(modes[i]).number == LERNAZHUP_BADMODE);
+    }
 }
 
 int facts_hold(void)
 {
     all_hold = 1;
-    printed_rows();
+    printed_rows(1, rows_of_002);
+    printed_rows(2, rows_of_000);
     words();
     single_symbols();
     start_octet();
-    frames();
+    fact("L", reference_write(1, report, 5, chips, sizeof chips).chips == 704);
+    fact("L", reference_write(0, report, 5, chips, sizeof chips).chips == 1320);
+    lengths(0, 720, 120, 15960);
+    lengths(1, 384, 64, 8512);
+    lengths(2, 192, 32, 4256);
+    readings();
+    no_radio();
     return all_hold;
 }

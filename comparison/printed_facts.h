@@ -1,5 +1,5 @@
-/* The reference held to the numbers that document 01 and the sources print, before anything is
- * compared with it. */
+/* The reference held to the numbers that documents 01 and 02 and the sources print, before anything
+ * is compared with it. */
 #ifndef PRINTED_FACTS_H
 #define PRINTED_FACTS_H
 

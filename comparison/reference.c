@@ -1,7 +1,7 @@
 /*
- * The reference: document 01 in plain C. It is meant for being checked by eye with 01 in the other
- * hand, so it follows 01's words and order and does nothing for speed: each symbol is compared with
- * every word, chip by chip.
+ * The reference: document 01 in plain C, with the third radio of document 02. It is meant for being
+ * checked by eye with 01 in the other hand, so it follows 01's words and order and does nothing for
+ * speed: each symbol is compared with every word, chip by chip.
  *
  * The reader keeps the raw symbols and reads octets off them; push works on the record, as the
  * header describes it. The two share only what one symbol is (match, raw_of), so that their
@@ -11,7 +11,7 @@
 
 #include <string.h>
 
-/* ---- The two radios ---- */
+/* ---- The three radios ---- */
 
 enum { START_OCTET = 0xA7, PREAMBLE_OCTETS = 4, HEAD_OCTETS = 6, SYMBOLS_MAX = (6 + 127) * 8, NO_WORD = 16 };
 
@@ -24,37 +24,47 @@ struct radio {
     uint8_t word[16][32];
 };
 
-static struct radio radios[2] = {
+static struct radio radios[MODES] = {
     { 15, 1, 6, 2, 8, { { 0 } } },
-    { 32, 4, 5, 16, 2, { { 0 } } }
+    { 32, 4, 5, 16, 2, { { 0 } } },
+    { 16, 4, 2, 16, 2, { { 0 } } }
 };
 
-static const char bit_0[] = "111101011001000";
-static const char bit_1[] = "000010100110111";
-static const char symbol_0[] = "11011001110000110101001000101110";
-
-static void make_words(void)
+/* A word as it is printed: c0 at the left and first. */
+static void set_word(uint8_t *word, const char *printed)
 {
-    uint8_t (*word)[32] = radios[1].word;
-    uint32_t w, c;
+    uint32_t c;
 
-    for (c = 0; c < 15; c++) {
-        radios[0].word[0][c] = (uint8_t)(bit_0[c] - '0');
-        radios[0].word[1][c] = (uint8_t)(bit_1[c] - '0');
-    }
-    for (c = 0; c < 32; c++)
-        word[0][c] = (uint8_t)(symbol_0[c] - '0');
-    /* Symbols 1 to 7 are each the one before, turned right by four chips. */
+    for (c = 0; printed[c] != 0; c++)
+        word[c] = (uint8_t)(printed[c] - '0');
+}
+
+/* The sixteen words of mode 1 or 2, from word 0 and the number of chips of a turn. */
+static void turn_words(struct radio *radio, uint32_t turn, const char *word_0)
+{
+    uint8_t (*word)[32] = radio->word;
+    uint32_t chips = radio->chips, w, c;
+
+    set_word(word[0], word_0);
+    /* Words 1 to 7 are each the one before, turned right. */
     for (w = 1; w <= 7; w++)
-        for (c = 0; c < 32; c++)
-            word[w][(c + 4) % 32] = word[w - 1][c];
-    /* Symbols 8 to 15 are symbols 0 to 7 with each chip of odd index inverted. */
+        for (c = 0; c < chips; c++)
+            word[w][(c + turn) % chips] = word[w - 1][c];
+    /* Words 8 to 15 are words 0 to 7 with each chip of odd index inverted. */
     for (w = 8; w <= 15; w++)
-        for (c = 0; c < 32; c++)
+        for (c = 0; c < chips; c++)
             word[w][c] = c % 2 == 1 ? 1 - word[w - 8][c] : word[w - 8][c];
 }
 
-/* The radio of a mode; NULL where the mode is neither 0 nor 1. */
+static void make_words(void)
+{
+    set_word(radios[0].word[0], "111101011001000");
+    set_word(radios[0].word[1], "000010100110111");
+    turn_words(&radios[1], 4, "11011001110000110101001000101110");
+    turn_words(&radios[2], 2, "0011111000100101");
+}
+
+/* The radio of a mode; NULL where the mode is above 2. */
 static const struct radio *radio_of(uint32_t mode)
 {
     static int made;
@@ -62,7 +72,7 @@ static const struct radio *radio_of(uint32_t mode)
     if (!made)
         make_words();
     made = 1;
-    if (mode != 0 && mode != 1)
+    if (mode > 2)
         return NULL;
     return &radios[mode];
 }
@@ -105,7 +115,8 @@ static uint32_t match(const struct radio *radio, const uint8_t *symbol, uint32_t
     return value;
 }
 
-/* Mode 0: the sum modulo 2 of each encoded bit and the one before it. Mode 1: the symbol itself. */
+/* Mode 0: the sum modulo 2 of each encoded bit and the one before it. Modes 1 and 2: the symbol
+ * itself. */
 static uint32_t raw_of(const struct radio *radio, uint32_t before, uint32_t value)
 {
     return radio->bits == 1 ? (before % 2 + value) % 2 : value;
@@ -281,7 +292,7 @@ lernazhup_step reference_start(uint32_t mode)
 
     memset(&r, 0, sizeof r);
     r.mode = mode;
-    r.ended = mode == 0 || mode == 1 ? LERNAZHUP_MORE : LERNAZHUP_BADMODE;
+    r.ended = radio_of(mode) != NULL ? LERNAZHUP_MORE : LERNAZHUP_BADMODE;
     return step(r.ended, r);
 }
 
@@ -358,4 +369,5 @@ lernazhup_reading reference_take(lernazhup_receiver r, uint8_t *report, size_t r
 uint32_t reference_chips(uint32_t mode) { return radio_of(mode)->chips; }
 uint32_t reference_per_octet(uint32_t mode) { return radio_of(mode)->per_octet; }
 uint32_t reference_limit(uint32_t mode) { return radio_of(mode)->limit; }
+uint32_t reference_words(uint32_t mode) { return radio_of(mode)->words; }
 const uint8_t *reference_word(uint32_t mode, uint32_t value) { return radio_of(mode)->word[value]; }

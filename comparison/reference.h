@@ -1,12 +1,15 @@
 /*
- * The reference: document 01 in plain C, with the signatures of the library. The differential test
- * compares the library with it. It was written from the document and the header, without sight of
- * the library's source.
+ * The reference: document 01 in plain C, with the third radio of document 02 and the signatures of
+ * the library. The differential test compares the library with it. It was written from the
+ * documents and the header, without sight of the library's source.
  */
 #ifndef REFERENCE_H
 #define REFERENCE_H
 
 #include "lernazhup.h"
+
+/* Radios, whose modes are the numbers below this one. */
+enum { MODES = 3 };
 
 lernazhup_written reference_write(uint32_t mode, const uint8_t *report, size_t report_len, uint8_t *chips, size_t chips_len);
 lernazhup_reading reference_read(uint32_t mode, const uint8_t *chips, size_t chips_len, uint8_t *report, size_t report_len);
@@ -16,16 +19,17 @@ lernazhup_step reference_finish(lernazhup_receiver receiver);
 lernazhup_reading reference_take(lernazhup_receiver receiver, uint8_t *report, size_t report_len);
 
 /*
- * For the makers of cases. The chips of any octets, as the writer spreads them (mode 0 or 1); gives
- * their number. A frame with a wrong start octet is made with it.
+ * For the makers of cases. The chips of any octets, as the writer spreads them in a mode that a
+ * radio has; gives their number. A frame with a wrong start octet is made with it.
  */
 size_t reference_spread(uint32_t mode, const uint8_t *octets, size_t octets_len, uint8_t *chips);
 
-/* Chips per symbol, symbols per octet and accepted distance of mode 0 or 1, and the word for a
- * value. */
+/* Of such a mode: chips per symbol, symbols per octet, accepted distance, number of words, and the
+ * word for a value. */
 uint32_t reference_chips(uint32_t mode);
 uint32_t reference_per_octet(uint32_t mode);
 uint32_t reference_limit(uint32_t mode);
+uint32_t reference_words(uint32_t mode);
 const uint8_t *reference_word(uint32_t mode, uint32_t value);
 
 #endif
