@@ -29,7 +29,7 @@ void notes_print(FILE *out);
 enum { MADE_MAX = 68000 };
 
 struct made {
-    uint32_t mode;      /* the radio that the chips were made for: 0 or 1 */
+    uint32_t mode;      /* of the radio that the chips were made for */
     uint32_t n;         /* octets of the frame's report */
     uint32_t marked;    /* the symbol disturbed last */
     size_t frame;       /* chips of the whole frame */

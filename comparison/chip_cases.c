@@ -104,7 +104,7 @@ static void make_frame(struct made *made, uint32_t longest)
     uint8_t octets[6 + 127] = { 0, 0, 0, 0, 0xA7 };
     uint32_t n = pick_report_length(longest);
 
-    made->mode = pick(2);
+    made->mode = pick(MODES);
     made->n = n;
     note("frame of %ld octets", n);
     octets[5] = (uint8_t)n;
@@ -211,7 +211,7 @@ static void disturb_edge(struct made *made)
 
 void make_between(uint32_t mode, uint8_t *symbol)
 {
-    uint32_t size = reference_chips(mode), words = mode == 0 ? 2 : 16, from = pick(words), to = pick(words), c, left = 0;
+    uint32_t size = reference_chips(mode), words = reference_words(mode), from = pick(words), to = pick(words), c, left = 0;
     const uint8_t *near = reference_word(mode, from), *far = reference_word(mode, to);
 
     for (c = 0; c < size; c++)
@@ -240,7 +240,7 @@ static void replace_symbol(struct made *made)
 {
     uint32_t size = reference_chips(made->mode), s = pick_symbol(made);
 
-    memcpy(made->chips + s * size, reference_word(made->mode, pick(made->mode == 0 ? 2 : 16)), size);
+    memcpy(made->chips + s * size, reference_word(made->mode, pick(reference_words(made->mode))), size);
     made->marked = s;
     note("symbol %ld replaced by a word", s);
 }
@@ -262,7 +262,7 @@ static void make_noise(struct made *made)
 {
     size_t i;
 
-    made->mode = pick(2);
+    made->mode = pick(MODES);
     made->n = pick(4);
     made->frame = made->length = symbols_of(made) * reference_chips(made->mode);
     switch (pick(4)) {
@@ -437,14 +437,18 @@ void make_edge_frame(struct made *made, uint32_t mode, uint32_t n, uint32_t more
 
 uint32_t make_bad_mode(void)
 {
-    static const uint32_t modes[] = { 2, 3, 34, 255, 256, 257, 65535, 65536, 65537, 0x80000000, 0x80000001, 0xFFFFFFFF };
+    /* Some would be a radio's, cut to a narrower type. */
+    static const uint32_t modes[] = {
+        4, 34, 255, 256, 257, 258, 65535, 65536, 65537, 65538, 0x80000000, 0x80000001, 0x80000002, 0xFFFFFFFF
+    };
+    uint32_t kind = pick(100);
 
-    return chance(80) ? modes[pick(sizeof modes / sizeof modes[0])] : pick_any() | 2;
+    return kind < 20 ? MODES : kind < 85 ? modes[pick(sizeof modes / sizeof modes[0])] : pick_any() | 4;
 }
 
 uint32_t make_mode(uint32_t mode)
 {
-    return chance(3) ? make_bad_mode() : chance(2) ? 1 - mode : mode;
+    return chance(3) ? make_bad_mode() : chance(2) ? (mode + 1 + pick(MODES - 1)) % MODES : mode;
 }
 
 size_t make_room(size_t needed)

@@ -57,7 +57,7 @@ static void try_reading_back(uint32_t mode, const uint8_t *report, size_t length
 static void try_writing(void)
 {
     static uint8_t report[LENT_MAX];
-    uint32_t mode = pick(2), kind = pick(100);
+    uint32_t mode = pick(MODES), kind = pick(100);
     size_t length = kind < 55 ? pick(20) : kind < 97 ? pick(131) : kind < 99 ? pick(600) : 256 + pick(128), room, needed;
 
     notes_clear();
@@ -83,8 +83,8 @@ static lernazhup_receiver idle_calls(lernazhup_receiver record)
 
     if (chance(50))
         check_take(record, make_room(record.length % 128));
-    if (record.mode > 1)
-        return check_push(record, bytes, 15 + 17 * pick(2)).receiver;
+    if (record.mode >= MODES)
+        return check_push(record, bytes, reference_chips(pick(MODES))).receiver;
     if (record.ended == LERNAZHUP_MORE)
         return check_push(record, bytes, make_part_length(record.mode)).receiver;
     if (chance(50))
@@ -125,7 +125,7 @@ static void try_sequence(void)
     make_chips(&made, chance(90) ? 20 : 127);
     size = reference_chips(made.mode);
     record = check_start(make_mode(made.mode));
-    if (record.mode <= 1)
+    if (record.mode < MODES)
         size = reference_chips(record.mode);
     for (at = 0; record.ended == LERNAZHUP_MORE && made.length - at >= size; at += size) {
         record = honest(check_push(record, made.chips + at, size));
@@ -154,7 +154,7 @@ static void try_record(void)
     check_take(record, make_room(record.length % 256));
     check_finish(record);
     for (pushes = 1 + (int)pick(3); pushes > 0; pushes--)
-        record = check_push(record, part, make_part(record.mode < 2 ? record.mode : pick(2), part)).receiver;
+        record = check_push(record, part, make_part(record.mode < MODES ? record.mode : pick(MODES), part)).receiver;
     if (chance(30))
         check_take(record, 127);
 }
@@ -164,7 +164,7 @@ static void try_start(void)
     lernazhup_receiver record;
 
     notes_clear();
-    record = check_start(chance(50) ? pick(2) : make_bad_mode());
+    record = check_start(chance(50) ? pick(MODES) : make_bad_mode());
     keep_record(&record);
     if (chance(30))
         idle_calls(record);
@@ -201,15 +201,15 @@ static void try_taking(uint32_t mode, uint32_t n)
     check_take(record, n + 1);
 }
 
-/* Every length, in both modes: at the accepted distance, one chip farther in the last symbol, and
+/* Every length, in every mode: at the accepted distance, one chip farther in the last symbol, and
  * with rooms at the edge. */
 static void try_every_length(void)
 {
     uint32_t mode, n, each;
 
-    for (each = 0; each < 2 * 128; each++) {
-        mode = each % 2;
-        n = each / 2;
+    for (each = 0; each < MODES * 128; each++) {
+        mode = each % MODES;
+        n = each / MODES;
         make_edge_frame(&made, mode, n, 0);
         check_read(mode, made.chips, made.length, n);
         check_read(mode, made.chips, made.length, n + 1);
@@ -256,7 +256,7 @@ static void try_huge_frames(uint32_t mode)
 
         memset(wanted, 0, LENT_MAX);
         want = reference_write(mode, in, length, wanted, LENT_MAX);
-        count_case(WRITE, want.number);
+        count_case(WRITE, mode, want.number);
         begin("lernazhup_write", mode, NULL, length, huge + 1);
         got = lernazhup_write(mode, in, length, huge_out, huge + 1);
         if (got.number != want.number || got.chips != want.chips)
@@ -266,7 +266,7 @@ static void try_huge_frames(uint32_t mode)
     reference_write(mode, report, 3, huge_in, LENT_MAX);
     memset(wanted, 0, LENT_MAX);
     want_read = reference_read(mode, huge_in, LENT_MAX, wanted, 127);
-    count_case(READ, want_read.number);
+    count_case(READ, mode, want_read.number);
     begin("lernazhup_read", mode, NULL, huge + 1, huge + 1);
     check_reading(lernazhup_read(mode, huge_in, huge + 1, huge_out, huge + 1), want_read);
     check_huge_front();
@@ -280,7 +280,7 @@ static void try_huge_records(uint32_t mode)
     lernazhup_reading want;
 
     begin_on_record("lernazhup_push", &record, NULL, huge + reference_chips(mode), 0);
-    count_case(PUSH, LERNAZHUP_BADPART);
+    count_case(PUSH, mode, LERNAZHUP_BADPART);
     check_step(lernazhup_push(record, huge_in, huge + reference_chips(mode)),
         reference_push(record, huge_in, huge + reference_chips(mode)));
     record.ended = LERNAZHUP_DONE;
@@ -289,7 +289,7 @@ static void try_huge_records(uint32_t mode)
     record.octets[0] = record.octets[1] = 0xEE;
     memset(wanted, 0, LENT_MAX);
     want = reference_take(record, wanted, 127);
-    count_case(TAKE, want.number);
+    count_case(TAKE, mode, want.number);
     begin_on_record("lernazhup_take", &record, NULL, 0, huge + 1);
     check_reading(lernazhup_take(record, huge_out, huge + 1), want);
     check_huge_front();
@@ -306,7 +306,7 @@ static void try_huge_lengths(void)
         printf("lengths above 32 bits are left out: no address space for them\n");
         return;
     }
-    for (mode = 0; mode < 2; mode++) {
+    for (mode = 0; mode < MODES; mode++) {
         try_huge_frames(mode);
         try_huge_records(mode);
     }

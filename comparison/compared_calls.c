@@ -44,8 +44,8 @@ enum { FORGED = 14, OTHER = 15, COLUMNS = 16 };
 
 static const char *repeat;
 static uint64_t cases, baseline_cases;
-static uint64_t met[FUNCTIONS][COLUMNS];
-static uint64_t written_lengths[2][128], read_lengths[2][128];
+static uint64_t met[FUNCTIONS][MODES + 1][COLUMNS];     /* row MODES: the modes that no radio has */
+static uint64_t written_lengths[MODES][128], read_lengths[MODES][128];
 
 static struct {
     const char *name;
@@ -74,7 +74,7 @@ static void print_record(const char *title, const lernazhup_receiver *r)
 static void print_bytes(void)
 {
     enum { SHOWN = 2000 };
-    size_t i, group = now.mode == 0 ? 15 : 32;
+    size_t i, group = now.mode < MODES ? reference_chips(now.mode) : LERNAZHUP_SYMBOL_MAX;
 
     printf("  bytes in:");
     for (i = 0; i < now.in_length && i < SHOWN; i++) {
@@ -136,13 +136,13 @@ void begin_on_record(const char *name, const lernazhup_receiver *record, const u
     now.record = *record;
 }
 
-void count_case(enum function function, uint32_t number)
+void count_case(enum function function, uint32_t mode, uint32_t number)
 {
     enum { SECONDS = 120, OFTEN = 1024 };
 
     if (cases++ % OFTEN == 0)
         alarm(SECONDS);
-    met[function][number <= 13 ? number : number == 34 ? FORGED : OTHER]++;
+    met[function][mode < MODES ? mode : MODES][number <= 13 ? number : number == 34 ? FORGED : OTHER]++;
 }
 
 uint64_t cases_so_far(void)
@@ -211,7 +211,7 @@ lernazhup_reading check_read(uint32_t mode, const uint8_t *chips, size_t length,
 
     memcpy(wanted, before, room);
     want = reference_read(mode, chips, length, wanted, room);
-    count_case(READ, want.number);
+    count_case(READ, mode, want.number);
     if (want.number == LERNAZHUP_DONE)
         read_lengths[mode][want.n]++;
     for (i = 0; i < IMPLEMENTATIONS; i++) {
@@ -239,7 +239,7 @@ lernazhup_written check_write(uint32_t mode, const uint8_t *report, size_t lengt
 
     memcpy(wanted, before, room);
     want = reference_write(mode, report, length, wanted, room);
-    count_case(WRITE, want.number);
+    count_case(WRITE, mode, want.number);
     if (want.number == LERNAZHUP_DONE)
         written_lengths[mode][length]++;
     for (i = 0; i < IMPLEMENTATIONS; i++) {
@@ -294,7 +294,7 @@ lernazhup_receiver check_start(uint32_t mode)
 {
     lernazhup_step want = reference_start(mode);
 
-    count_case(START, want.number);
+    count_case(START, mode, want.number);
     begin("lernazhup_start", mode, NULL, 0, 0);
     check_step(lernazhup_start(mode), want);
     return want.receiver;
@@ -305,7 +305,7 @@ lernazhup_step check_push(lernazhup_receiver record, const uint8_t *part, size_t
     lernazhup_step want = reference_push(record, part, length);
     uint8_t *in;
 
-    count_case(PUSH, want.number);
+    count_case(PUSH, record.mode, want.number);
     begin_on_record("lernazhup_push", &record, part, length, 0);
     in = lend_somewhere(LENT_IN, part, length);
     check_step(lernazhup_push(record, in, length), want);
@@ -317,7 +317,7 @@ lernazhup_step check_finish(lernazhup_receiver record)
 {
     lernazhup_step want = reference_finish(record);
 
-    count_case(FINISH, want.number);
+    count_case(FINISH, record.mode, want.number);
     begin_on_record("lernazhup_finish", &record, NULL, 0, 0);
     check_step(lernazhup_finish(record), want);
     return want;
@@ -331,7 +331,7 @@ lernazhup_reading check_take(lernazhup_receiver record, size_t room)
 
     memcpy(wanted, before, room);
     want = reference_take(record, wanted, room);
-    count_case(TAKE, want.number);
+    count_case(TAKE, record.mode, want.number);
     begin_on_record("lernazhup_take", &record, NULL, 0, room);
     out = lend_somewhere(LENT_OUT, before, room);
     check_reading(lernazhup_take(record, out, room), want);
@@ -353,37 +353,69 @@ static const int8_t columns_of[FUNCTIONS][12] = {
 
 int all_met(void)
 {
-    int f, i, n, all = 1;
+    int f, i, mode, n, all = 1;
 
     for (f = 0; f < FUNCTIONS; f++)
         for (i = 0; columns_of[f][i] >= 0; i++)
-            if (met[f][columns_of[f][i]] == 0) {
-                printf("%s never answered %d\n", function_names[f], columns_of[f][i] == FORGED ? 34 : columns_of[f][i]);
+            for (mode = 0; mode <= MODES; mode++) {
+                int column = columns_of[f][i];
+
+                /* 1 is for the modes that no radio has, and the others for each that one has. */
+                if ((column == 1) == (mode == MODES) && met[f][mode][column] == 0) {
+                    printf("mode %d: %s never answered %d\n", mode, function_names[f], column == FORGED ? 34 : column);
+                    all = 0;
+                }
+            }
+    for (mode = 0; mode < MODES; mode++)
+        for (n = 0; n < 128; n++)
+            if (written_lengths[mode][n] == 0 || read_lengths[mode][n] == 0) {
+                printf("mode %d: %d octets never written or never read\n", mode, n);
                 all = 0;
             }
-    for (n = 0; n < 256; n++)
-        if (written_lengths[n / 128][n % 128] == 0 || read_lengths[n / 128][n % 128] == 0) {
-            printf("mode %d: %d octets never written or never read\n", n / 128, n % 128);
-            all = 0;
-        }
     return all;
+}
+
+/* The cases of a function that were answered with the number of a column. */
+static uint64_t answered(int f, int column)
+{
+    uint64_t sum = 0;
+    int mode;
+
+    for (mode = 0; mode <= MODES; mode++)
+        sum += met[f][mode][column];
+    return sum;
+}
+
+static uint64_t in_mode(int mode)
+{
+    uint64_t sum = 0;
+    int f, n;
+
+    for (f = 0; f < FUNCTIONS; f++)
+        for (n = 0; n < COLUMNS; n++)
+            sum += met[f][mode][n];
+    return sum;
 }
 
 void print_counts(void)
 {
-    int f, n;
+    int f, n, mode;
 
     for (f = 0; f < FUNCTIONS; f++) {
         uint64_t all = 0;
 
         for (n = 0; n < COLUMNS; n++)
-            all += met[f][n];
+            all += answered(f, n);
         printf("%-6s %8" PRIu64 " cases, by number:", function_names[f], all);
         for (n = 0; n < OTHER; n++)
-            if (met[f][n] > 0)
-                printf(" %d: %" PRIu64 ",", n == FORGED ? 34 : n, met[f][n]);
-        printf(" others: %" PRIu64 "\n", met[f][OTHER]);
+            if (answered(f, n) > 0)
+                printf(" %d: %" PRIu64 ",", n == FORGED ? 34 : n, answered(f, n));
+        printf(" others: %" PRIu64 "\n", answered(f, OTHER));
     }
+    printf("all    %8" PRIu64 " cases, by mode:", cases);
+    for (mode = 0; mode < MODES; mode++)
+        printf(" %d: %" PRIu64 ",", mode, in_mode(mode));
+    printf(" others: %" PRIu64 "\n", in_mode(MODES));
     printf("lent   %8" PRIu64 " buffers that end at an unmapped page, %" PRIu64 " that begin at one, %" PRIu64
         " between guard bytes, %" PRIu64 " null\n",
         lent_at[LENT_AT_END], lent_at[LENT_AT_START], lent_at[LENT_BETWEEN], lent_at[LENT_NULL]);

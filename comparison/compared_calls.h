@@ -44,18 +44,19 @@ const uint8_t *pick_junk(void);
 
 enum function { WRITE, READ, START, PUSH, FINISH, TAKE, FUNCTIONS };
 
-void count_case(enum function function, uint32_t number);
+void count_case(enum function function, uint32_t mode, uint32_t number);
 uint64_t cases_so_far(void);
 
 /* Makes all ready; to be called first, after the picks got their seed. `again` is what to run for
  * the same cases. */
 void check_open(const char *again);
 
-/* Prints how many cases of each function there were, by the number given back. */
+/* Prints how many cases of each function there were, by the number given back, and how many of each
+ * mode. */
 void print_counts(void);
 
-/* Whether each number was met that a function can give, and each length written and read; prints
- * what wasn't. */
+/* Whether in each mode each number was met that a function can give, and each length written and
+ * read; prints what wasn't. */
 int all_met(void);
 
 #endif

@@ -9,16 +9,12 @@
 size_t make_part_length(uint32_t mode)
 {
     size_t size = reference_chips(mode);
-    size_t lengths[8] = { 0, 1, 0, 0, 0, 0, 256, 512 };
+    /* The symbols of all radios and what is a chip longer; 256 and 512 more than a symbol are for a
+     * length cut to 8 bits. */
+    const size_t lengths[] = { 0, 1, 15, 16, 17, 32, 33, size - 1, size + 1, 2 * size, 256 + size, 512 + size };
+    size_t length = lengths[pick(sizeof lengths / sizeof lengths[0])];
 
-    lengths[2] = size - 1;
-    lengths[3] = size + 1;
-    lengths[4] = reference_chips(1 - mode);
-    lengths[5] = 2 * size;
-    /* 256 and 512 more than a symbol: for a length cut to 8 bits. */
-    lengths[6] += size;
-    lengths[7] += size;
-    return lengths[pick(8)];
+    return length != size ? length : size - 1;
 }
 
 /* Inverts that many chips, side by side with a turn: different ones, and cheap. */
@@ -33,7 +29,7 @@ static void wrong_chips(uint8_t *part, uint32_t size, uint32_t wrong)
 size_t make_part(uint32_t mode, uint8_t *part)
 {
     uint32_t size = reference_chips(mode), limit = reference_limit(mode), kind = pick(100);
-    uint32_t value = chance(40) ? 0 : pick(mode == 0 ? 2 : 16), i;
+    uint32_t value = chance(40) ? 0 : pick(reference_words(mode)), i;
 
     memcpy(part, reference_word(mode, value), size);
     note("part like word %ld", value);
@@ -79,8 +75,8 @@ void keep_record(const lernazhup_receiver *record)
 static uint32_t wild_number(void)
 {
     static const uint32_t numbers[] = {
-        0, 1, 13, 34, 127, 128, 255, 256, 65535, 65536, 0x2AAAAAAA, 0x2AAAAAAB, 0x33333333, 0x33333334, 0x7FFFFFFF,
-        0x80000000, 0xFFFFFFFE, 0xFFFFFFFF
+        0, 1, 2, 3, 13, 34, 127, 128, 255, 256, 258, 65535, 65536, 65538, 0x2AAAAAAA, 0x2AAAAAAB, 0x33333333, 0x33333334,
+        0x7FFFFFFF, 0x80000000, 0xFFFFFFFE, 0xFFFFFFFF
     };
     uint32_t any = pick_any();
 
@@ -158,7 +154,7 @@ static lernazhup_receiver at_edges(void)
     uint32_t per_octet, limit;
 
     memset(&record, 0, sizeof record);
-    record.mode = pick(2);
+    record.mode = pick(MODES);
     per_octet = reference_per_octet(record.mode);
     limit = reference_limit(record.mode);
     record.length = chance(30) ? 124 + pick(6) : pick(chance(50) ? 4 : 128);
@@ -169,8 +165,10 @@ static lernazhup_receiver at_edges(void)
     record.count = chance(60) ? limit * record.taken + pick(3) - 1 : pick(limit * (record.taken % 1100) + 1);
     record.last = chance(70) ? pick(16) : wild_number();
     /* Octets that the right symbol makes 0xA7, or the top bit of which will be 0. */
-    record.octet = chance(40) ? (record.mode == 1 ? 0x70 : 0x4E) + pick(2) : chance(50) ? pick(256) : wild_number();
+    record.octet = chance(40) ? (record.mode == 0 ? 0x4E : 0x70) + pick(2) : chance(50) ? pick(256) : wild_number();
     pick_bytes(record.octets, sizeof record.octets);
+    if (chance(10))
+        record.mode = make_bad_mode();
     note("a record at the edges", 0);
     return record;
 }
