@@ -10,7 +10,7 @@
 
 #include "baselines.h"
 
-enum { HEADER = 6, BPSK_OCTET = 120, OQPSK_OCTET = 64 };
+enum { HEADER = 6, BPSK_OCTET = 120 };
 
 /* What is carried from octet to octet. */
 struct progress {
@@ -18,35 +18,44 @@ struct progress {
     __m128i counts;  /* chips repaired, in parts still to be summed */
     __m128i far;     /* mode 0: the largest distances */
     unsigned last;   /* mode 0: the encoded bit before the next one */
-    unsigned values; /* mode 1: every symbol's value, OR-ed; 16 where no word is near enough */
+    unsigned values; /* modes 1, 2: every symbol's value, OR-ed; 16 where no word is near enough */
 };
 
-/* Mode 1: how far the 8 chips at each quarter of a symbol are from that quarter of each of the 16
- * words, in rows of 16 bytes. A symbol's 16 distances are then the sum of four rows, with one
- * addition for all 16. The first quarter's rows have 6 taken off: a byte of the sum is negative
- * where the distance is within the limit. */
-static uint8_t quarter_distances[4][256 * 16] __attribute__((aligned(64)));
+/* Modes 1 and 2: how far the 8 chips at each part of a symbol are from that part of each of the 16
+ * words, in rows of 16 bytes. The first four tables are for mode 1's quarters, the other two for
+ * mode 2's halves. A symbol's 16 distances are then the sum of four rows or of two, with one
+ * addition for all 16 at a time. The first part's rows have 1 more than the limit taken off: a byte
+ * of the sum is negative where the distance is within the limit. */
+enum { FIRST32 = 0, FIRST16 = 4, TABLES = 6 };
+static uint8_t distances[TABLES][256 * 16] __attribute__((aligned(64)));
 
-/* First chip in the lowest bit, as _mm_movemask_epi8 gives it. */
-static uint32_t oqpsk_word(unsigned value)
+/* First chip in the lowest bit, as _mm_movemask_epi8 gives it. Both radios turn by an eighth of a
+ * word. Bits above the word's are of no use. */
+static uint64_t oqpsk_word(uint64_t first, unsigned length, unsigned value)
 {
-    uint32_t first = 0x744AC39B;
-    unsigned turn = 4 * (value % 8);
-    uint32_t turned = turn == 0 ? first : first << turn | first >> (32 - turn);
+    unsigned turn = length / 8 * (value % 8);
+    uint64_t turned = first << turn | first >> (length - turn);
     return value < 8 ? turned : turned ^ 0xAAAAAAAA;
 }
 
-/* Made before main, since 16 KiB of numbers would say nothing to a reader. */
-__attribute__((constructor)) static void make_distances(void)
+/* The tables of a radio: one for each 8 chips of a symbol. */
+static void make_tables(unsigned table, uint64_t first, unsigned length, int limit)
 {
-    unsigned quarter, chips, value;
-    for (quarter = 0; quarter < 4; quarter++)
+    unsigned at, chips, value;
+    for (at = 0; at < length; at += 8, table++)
         for (chips = 0; chips < 256; chips++)
             for (value = 0; value < 16; value++) {
-                unsigned word = oqpsk_word(value) >> 8 * quarter & 255;
-                int distance = __builtin_popcount(word ^ chips) - (quarter == 0 ? 6 : 0);
-                quarter_distances[quarter][16 * chips + value] = (uint8_t)distance;
+                unsigned word = oqpsk_word(first, length, value) >> at & 255;
+                int distance = __builtin_popcount(word ^ chips) - (at == 0 ? limit + 1 : 0);
+                distances[table][16 * chips + value] = (uint8_t)distance;
             }
+}
+
+/* Made before main, since 24 KiB of numbers would say nothing to a reader. */
+__attribute__((constructor)) static void make_distances(void)
+{
+    make_tables(FIRST32, 0x744AC39B, 32, LERNAZHUP_ACCEPTED_MODE1);
+    make_tables(FIRST16, 0xA47C, 16, LERNAZHUP_ACCEPTED_MODE2);
 }
 
 static __m128i load(const uint8_t *from)
@@ -55,35 +64,39 @@ static __m128i load(const uint8_t *from)
 }
 
 /* The two rows for 16 chips, added. */
-static inline __m128i rows(unsigned quarter, unsigned chips)
+static inline __m128i rows(unsigned table, const uint8_t *chips, struct progress *progress)
 {
-    const uint8_t *low = quarter_distances[quarter] + (chips << 4 & 0xFF0);
-    const uint8_t *high = quarter_distances[quarter + 1] + (chips >> 4 & 0xFF0);
+    __m128i bytes = load(chips);
+    unsigned bits = (unsigned)_mm_movemask_epi8(_mm_slli_epi16(bytes, 7));
+    const uint8_t *low = distances[table] + (bits << 4 & 0xFF0);
+    const uint8_t *high = distances[table + 1] + (bits >> 4 & 0xFF0);
+    progress->seen = _mm_or_si128(progress->seen, bytes);
     return _mm_add_epi8(_mm_load_si128((const __m128i *)low), _mm_load_si128((const __m128i *)high));
 }
 
 /* One symbol's value, or 16 where no word is near enough. At most one of the 16 sums is negative,
- * which as a byte without sign is 250 to 255: taking 249 off, but nothing below 0, leaves its
- * distance and 1, and 0 for all the others. */
-static inline unsigned oqpsk_symbol(const uint8_t *chips, struct progress *progress, __m128i *distance)
+ * which as a byte without sign is 250 to 255 in mode 1 and 253 to 255 in mode 2: taking 249 or 252
+ * off, but nothing below 0, leaves its distance and 1, and 0 for all the others. The length is a
+ * constant where octets are read, and this is put in there whole. */
+static inline unsigned oqpsk_symbol(const uint8_t *chips, size_t length, struct progress *progress, __m128i *distance)
 {
-    __m128i front = load(chips), back = load(chips + 16), sums;
-    unsigned low = (unsigned)_mm_movemask_epi8(_mm_slli_epi16(front, 7));
-    unsigned high = (unsigned)_mm_movemask_epi8(_mm_slli_epi16(back, 7));
-    sums = _mm_add_epi8(rows(0, low), rows(2, high));
-    progress->seen = _mm_or_si128(progress->seen, _mm_or_si128(front, back));
-    *distance = _mm_subs_epu8(sums, _mm_set1_epi8((char)249));
+    __m128i sums;
+    if (length == 32)
+        sums = _mm_add_epi8(rows(FIRST32, chips, progress), rows(FIRST32 + 2, chips + 16, progress));
+    else
+        sums = rows(FIRST16, chips, progress);
+    *distance = _mm_subs_epu8(sums, _mm_set1_epi8((char)(length == 32 ? 249 : 252)));
     return (unsigned)__builtin_ctz((unsigned)_mm_movemask_epi8(sums) | 0x10000);
 }
 
-static void oqpsk_octets(const uint8_t *chips, size_t octets_len, uint8_t *octets, struct progress *kept)
+static inline void oqpsk_octets(size_t length, const uint8_t *chips, size_t octets_len, uint8_t *octets, struct progress *kept)
 {
     struct progress progress = *kept;
     size_t i;
-    for (i = 0; i < octets_len; i++, chips += OQPSK_OCTET) {
+    for (i = 0; i < octets_len; i++, chips += 2 * length) {
         __m128i first, second;
-        unsigned low = oqpsk_symbol(chips, &progress, &first);
-        unsigned high = oqpsk_symbol(chips + 32, &progress, &second);
+        unsigned low = oqpsk_symbol(chips, length, &progress, &first);
+        unsigned high = oqpsk_symbol(chips + length, length, &progress, &second);
         __m128i both = _mm_sad_epu8(_mm_add_epi8(first, second), _mm_setzero_si128());
         progress.counts = _mm_add_epi64(progress.counts, both);
         progress.values |= low | high;
@@ -143,6 +156,16 @@ static void bpsk_header(const uint8_t *chips, uint8_t *octets, struct progress *
     bpsk_octets(chips + BPSK_OCTET, HEADER - 1, octets + 1, progress);
 }
 
+static void read_octets(uint32_t mode, const uint8_t *chips, size_t octets_len, uint8_t *octets, struct progress *progress)
+{
+    if (mode == 0)
+        bpsk_octets(chips, octets_len, octets, progress);
+    else if (mode == 1)
+        oqpsk_octets(32, chips, octets_len, octets, progress);
+    else
+        oqpsk_octets(16, chips, octets_len, octets, progress);
+}
+
 /* Whether all symbols so far were chips near a word. */
 static int sound(const struct progress *progress)
 {
@@ -151,8 +174,8 @@ static int sound(const struct progress *progress)
     return _mm_movemask_epi8(good) == 0xFFFF && far == 0 && progress->values < 16;
 }
 
-/* Mode 0 counts in eight places of 16 bits; mode 1 in two of 64, with 1 too many for each symbol.
- * All stay small enough for the lowest 16 bits of a place to be the whole of it. */
+/* Mode 0 counts in eight places of 16 bits; modes 1 and 2 in two of 64, with 1 too many for each
+ * symbol. All stay small enough for the lowest 16 bits of a place to be the whole of it. */
 static uint32_t repaired(uint32_t mode, uint32_t symbols, const struct progress *progress)
 {
     uint16_t parts[8];
@@ -178,20 +201,17 @@ lernazhup_reading best_read(uint32_t mode, const uint8_t *chips, size_t chips_le
     struct progress progress;
     uint8_t header[HEADER], octets[LERNAZHUP_REPORT_MAX];
     lernazhup_reading reading = {LERNAZHUP_DONE, 0, 0, 0};
-    size_t octet_chips = mode == 0 ? BPSK_OCTET : OQPSK_OCTET;
-    if (mode > 1 || chips_len < HEADER * octet_chips)
+    size_t octet_chips = LERNAZHUP_BY_MODE(mode, BPSK_OCTET, 64, 32);
+    if (mode > 2 || chips_len < HEADER * octet_chips)
         return usual_read(mode, chips, chips_len, report, report_len);
     memset(&progress, 0, sizeof progress);
     if (mode == 0)
         bpsk_header(chips, header, &progress);
     else
-        oqpsk_octets(chips, HEADER, header, &progress);
+        read_octets(mode, chips, HEADER, header, &progress);
     if (!fits(header, chips_len, octet_chips, report_len))
         return usual_read(mode, chips, chips_len, report, report_len);
-    if (mode == 0)
-        bpsk_octets(chips + HEADER * BPSK_OCTET, header[5], octets, &progress);
-    else
-        oqpsk_octets(chips + HEADER * OQPSK_OCTET, header[5], octets, &progress);
+    read_octets(mode, chips + HEADER * octet_chips, header[5], octets, &progress);
     if (!sound(&progress))
         return usual_read(mode, chips, chips_len, report, report_len);
     reading.n = header[5];

@@ -9,7 +9,7 @@ static const uint8_t bpsk_words[2][15] = {
     {0, 0, 0, 0, 1, 0, 1, 0, 0, 1, 1, 0, 1, 1, 1},
 };
 
-static const uint8_t oqpsk_words[16][32] = {
+static const uint8_t oqpsk32_words[16][32] = {
     {1, 1, 0, 1, 1, 0, 0, 1, 1, 1, 0, 0, 0, 0, 1, 1, 0, 1, 0, 1, 0, 0, 1, 0, 0, 0, 1, 0, 1, 1, 1, 0},
     {1, 1, 1, 0, 1, 1, 0, 1, 1, 0, 0, 1, 1, 1, 0, 0, 0, 0, 1, 1, 0, 1, 0, 1, 0, 0, 1, 0, 0, 0, 1, 0},
     {0, 0, 1, 0, 1, 1, 1, 0, 1, 1, 0, 1, 1, 0, 0, 1, 1, 1, 0, 0, 0, 0, 1, 1, 0, 1, 0, 1, 0, 0, 1, 0},
@@ -28,6 +28,25 @@ static const uint8_t oqpsk_words[16][32] = {
     {1, 1, 0, 0, 1, 0, 0, 1, 0, 1, 1, 0, 0, 0, 0, 0, 0, 1, 1, 1, 0, 1, 1, 1, 1, 0, 1, 1, 1, 0, 0, 0},
 };
 
+static const uint8_t oqpsk16_words[16][16] = {
+    {0, 0, 1, 1, 1, 1, 1, 0, 0, 0, 1, 0, 0, 1, 0, 1},
+    {0, 1, 0, 0, 1, 1, 1, 1, 1, 0, 0, 0, 1, 0, 0, 1},
+    {0, 1, 0, 1, 0, 0, 1, 1, 1, 1, 1, 0, 0, 0, 1, 0},
+    {1, 0, 0, 1, 0, 1, 0, 0, 1, 1, 1, 1, 1, 0, 0, 0},
+    {0, 0, 1, 0, 0, 1, 0, 1, 0, 0, 1, 1, 1, 1, 1, 0},
+    {1, 0, 0, 0, 1, 0, 0, 1, 0, 1, 0, 0, 1, 1, 1, 1},
+    {1, 1, 1, 0, 0, 0, 1, 0, 0, 1, 0, 1, 0, 0, 1, 1},
+    {1, 1, 1, 1, 1, 0, 0, 0, 1, 0, 0, 1, 0, 1, 0, 0},
+    {0, 1, 1, 0, 1, 0, 1, 1, 0, 1, 1, 1, 0, 0, 0, 0},
+    {0, 0, 0, 1, 1, 0, 1, 0, 1, 1, 0, 1, 1, 1, 0, 0},
+    {0, 0, 0, 0, 0, 1, 1, 0, 1, 0, 1, 1, 0, 1, 1, 1},
+    {1, 1, 0, 0, 0, 0, 0, 1, 1, 0, 1, 0, 1, 1, 0, 1},
+    {0, 1, 1, 1, 0, 0, 0, 0, 0, 1, 1, 0, 1, 0, 1, 1},
+    {1, 1, 0, 1, 1, 1, 0, 0, 0, 0, 0, 1, 1, 0, 1, 0},
+    {1, 0, 1, 1, 0, 1, 1, 1, 0, 0, 0, 0, 0, 1, 1, 0},
+    {1, 0, 1, 0, 1, 1, 0, 1, 1, 1, 0, 0, 0, 0, 0, 1},
+};
+
 /* Each returns the place after the octet's chips, since the next octet begins there. */
 static uint8_t *bpsk_octet(uint8_t *chips, uint8_t octet, unsigned *last)
 {
@@ -40,11 +59,14 @@ static uint8_t *bpsk_octet(uint8_t *chips, uint8_t octet, unsigned *last)
     return chips;
 }
 
-static uint8_t *oqpsk_octet(uint8_t *chips, uint8_t octet)
+/* Modes 1 and 2. A word's length is a constant where a frame is written, and this is put in there
+ * whole: a word is then copied in a move or two. */
+static inline uint8_t *oqpsk_octet(uint8_t *chips, uint8_t octet, const void *words, size_t length)
 {
-    memcpy(chips, oqpsk_words[octet & 15], 32);
-    memcpy(chips + 32, oqpsk_words[octet >> 4], 32);
-    return chips + 64;
+    const uint8_t *from = words;
+    memcpy(chips, from + length * (octet & 15), length);
+    memcpy(chips + length, from + length * (octet >> 4), length);
+    return chips + 2 * length;
 }
 
 static void bpsk_frame(const uint8_t *header, const uint8_t *report, size_t n, uint8_t *chips)
@@ -57,13 +79,14 @@ static void bpsk_frame(const uint8_t *header, const uint8_t *report, size_t n, u
         chips = bpsk_octet(chips, report[i], &last);
 }
 
-static void oqpsk_frame(const uint8_t *header, const uint8_t *report, size_t n, uint8_t *chips)
+static inline void oqpsk_frame(const uint8_t *header, const uint8_t *report, size_t n, uint8_t *chips, const void *words,
+                               size_t length)
 {
     size_t i;
     for (i = 0; i < 6; i++)
-        chips = oqpsk_octet(chips, header[i]);
+        chips = oqpsk_octet(chips, header[i], words, length);
     for (i = 0; i < n; i++)
-        chips = oqpsk_octet(chips, report[i]);
+        chips = oqpsk_octet(chips, report[i], words, length);
 }
 
 static lernazhup_written written(uint32_t number, size_t chips)
@@ -76,17 +99,19 @@ lernazhup_written copying_write(uint32_t mode, const uint8_t *report, size_t rep
 {
     uint8_t header[6] = {0, 0, 0, 0, 0xA7, 0};
     size_t needed;
-    if (mode > 1)
+    if (mode > 2)
         return written(LERNAZHUP_BADMODE, 0);
     if (report_len > LERNAZHUP_REPORT_MAX)
         return written(LERNAZHUP_TOOLONG, 0);
-    needed = (6 + report_len) * (mode == 0 ? 120 : 64);
+    needed = LERNAZHUP_FRAME_CHIPS(mode, report_len);
     if (chips_len < needed)
         return written(LERNAZHUP_NOROOM, 0);
     header[5] = (uint8_t)report_len;
     if (mode == 0)
         bpsk_frame(header, report, report_len, chips);
+    else if (mode == 1)
+        oqpsk_frame(header, report, report_len, chips, oqpsk32_words, 32);
     else
-        oqpsk_frame(header, report, report_len, chips);
+        oqpsk_frame(header, report, report_len, chips, oqpsk16_words, 16);
     return written(LERNAZHUP_DONE, needed);
 }

@@ -18,16 +18,16 @@
 
 #include "baselines.h"
 
-enum { FRAMES = 32, OCTETS = LERNAZHUP_REPORT_MAX, LEAST_REPETITIONS = 51, MOST_REPETITIONS = 2001, WARM_UP = 3 };
+enum { MODES = 3, FRAMES = 32, OCTETS = LERNAZHUP_REPORT_MAX, LEAST_REPETITIONS = 51, MOST_REPETITIONS = 2001, WARM_UP = 3 };
 
 typedef lernazhup_reading reader(uint32_t, const uint8_t *, size_t, uint8_t *, size_t);
 typedef lernazhup_written writer(uint32_t, const uint8_t *, size_t, uint8_t *, size_t);
 typedef lernazhup_step pusher(lernazhup_receiver, const uint8_t *, size_t);
 
 static uint8_t reports[FRAMES][OCTETS];
-static uint8_t clean[2][FRAMES][LERNAZHUP_CHIPS_MAX];
-static uint8_t noisy[2][FRAMES][LERNAZHUP_CHIPS_MAX];
-static uint32_t wrong_chips[2][FRAMES];
+static uint8_t clean[MODES][FRAMES][LERNAZHUP_CHIPS_MAX];
+static uint8_t noisy[MODES][FRAMES][LERNAZHUP_CHIPS_MAX];
+static uint32_t wrong_chips[MODES][FRAMES];
 
 struct contestant {
     const char *name;
@@ -90,11 +90,12 @@ static void make_frame(uint32_t mode, size_t frame)
 static void make_frames(void)
 {
     size_t frame, i;
+    uint32_t mode;
     for (frame = 0; frame < FRAMES; frame++) {
         for (i = 0; i < OCTETS; i++)
             reports[frame][i] = (uint8_t)random_number();
-        make_frame(0, frame);
-        make_frame(1, frame);
+        for (mode = 0; mode < MODES; mode++)
+            make_frame(mode, frame);
     }
 }
 
@@ -124,20 +125,21 @@ static lernazhup_reading handing_read(uint32_t mode, const uint8_t *chips, size_
 
 static struct contestant contestants[] = {
 #define ONE(name, read, write, with_noise, mode) {name, read, write, with_noise, read != handing_read, mode, 0, {0}}
-#define BOTH(name, read, write, with_noise) ONE(name, read, write, with_noise, 0), ONE(name, read, write, with_noise, 1)
-    BOTH("lernazhup_read", lernazhup_read, NULL, 1),
-    BOTH("usual_read", usual_read, NULL, 1),
-    BOTH("usual_read, own popcount", usual_own_read, NULL, 1),
-    BOTH("lernazhup_read, no errors", lernazhup_read, NULL, 0),
-    BOTH("usual_read, no errors", usual_read, NULL, 0),
-    BOTH("lernazhup_write", NULL, lernazhup_write, 0),
-    BOTH("copying_write", NULL, copying_write, 0),
-    BOTH("receiver", stepping_read, NULL, 1),
-    BOTH("receiver, no errors", stepping_read, NULL, 0),
-    BOTH("record handed on", handing_read, NULL, 0),
-    BOTH("best_read", best_read, NULL, 1),
-    BOTH("best_read, no errors", best_read, NULL, 0),
-#undef BOTH
+#define EACH(name, read, write, with_noise) \
+    ONE(name, read, write, with_noise, 0), ONE(name, read, write, with_noise, 1), ONE(name, read, write, with_noise, 2)
+    EACH("lernazhup_read", lernazhup_read, NULL, 1),
+    EACH("usual_read", usual_read, NULL, 1),
+    EACH("usual_read, own popcount", usual_own_read, NULL, 1),
+    EACH("lernazhup_read, no errors", lernazhup_read, NULL, 0),
+    EACH("usual_read, no errors", usual_read, NULL, 0),
+    EACH("lernazhup_write", NULL, lernazhup_write, 0),
+    EACH("copying_write", NULL, copying_write, 0),
+    EACH("receiver", stepping_read, NULL, 1),
+    EACH("receiver, no errors", stepping_read, NULL, 0),
+    EACH("record handed on", handing_read, NULL, 0),
+    EACH("best_read", best_read, NULL, 1),
+    EACH("best_read, no errors", best_read, NULL, 0),
+#undef EACH
 #undef ONE
 };
 enum { CONTESTANTS = sizeof contestants / sizeof contestants[0] };
@@ -286,7 +288,7 @@ static void print_times(int repetitions)
     uint32_t mode;
     int i;
     printf("| mode | contestant | ns a chip | least | frames a second |\n|---|---|---|---|---|\n");
-    for (mode = 0; mode < 2; mode++)
+    for (mode = 0; mode < MODES; mode++)
         for (i = 0; i < CONTESTANTS; i++)
             if (contestants[i].mode == mode) {
                 summarise(&contestants[i], NULL, repetitions, &least, &median);
@@ -295,39 +297,47 @@ static void print_times(int repetitions)
             }
 }
 
-/* A target for each mode; 0 is none. */
-static void print_ratio(const char *name, const char *against, double bits, double words, int repetitions)
+struct ratio {
+    const char *name, *against;
+    double targets[MODES]; /* 0 is none */
+};
+
+static void print_ratio(const struct ratio *ratio, uint32_t mode, int repetitions)
 {
-    uint32_t mode;
-    for (mode = 0; mode < 2; mode++) {
-        const struct contestant *a = find(name, mode), *b = find(against, mode);
-        double unused, ratio, least_a, least_b, target = mode == 0 ? bits : words;
-        if (a == NULL || b == NULL)
-            continue;
-        summarise(a, NULL, repetitions, &least_a, &unused);
-        summarise(b, NULL, repetitions, &least_b, &unused);
-        summarise(a, b, repetitions, &unused, &ratio);
-        printf("| %u | %s over %s | %.3f | %.3f |", (unsigned)mode, name, against, ratio, least_a / least_b);
-        if (target > 0)
-            printf(" at most %.2f | %s |\n", target, ratio <= target ? "met" : "missed");
-        else
-            printf(" none | |\n");
-    }
+    const struct contestant *a = find(ratio->name, mode), *b = find(ratio->against, mode);
+    double unused, median, least_a, least_b, target = ratio->targets[mode];
+    if (a == NULL || b == NULL)
+        return;
+    summarise(a, NULL, repetitions, &least_a, &unused);
+    summarise(b, NULL, repetitions, &least_b, &unused);
+    summarise(a, b, repetitions, &unused, &median);
+    printf("| %u | %s over %s | %.3f | %.3f |", (unsigned)mode, a->name, b->name, median, least_a / least_b);
+    if (target > 0)
+        printf(" at most %.2f | %s |\n", target, median <= target ? "met" : "missed");
+    else
+        printf(" none | |\n");
 }
 
 static void print_ratios(int repetitions)
 {
+    static const struct ratio ratios[] = {
+        {"lernazhup_read", "usual_read", {0.35, 0.28, 0.40}},
+        {"lernazhup_read", "usual_read, own popcount", {0}},
+        {"lernazhup_write", "copying_write", {0.8, 1.5, 1.8}},
+        {"receiver", "lernazhup_read", {3.0, 3.0, 0}},
+        {"receiver", "record handed on", {0, 1.6, 0}},
+        {"record handed on", "lernazhup_read", {0}},
+        {"lernazhup_read, no errors", "usual_read, no errors", {0}},
+        {"lernazhup_read", "best_read", {0}},
+        {"usual_read", "best_read", {0}},
+    };
+    uint32_t mode;
+    size_t i;
     printf("\n| mode | ratio | median of the ratios | ratio of the least times | target for the median | |\n");
     printf("|---|---|---|---|---|---|\n");
-    print_ratio("lernazhup_read", "usual_read", 0.35, 0.28, repetitions);
-    print_ratio("lernazhup_read", "usual_read, own popcount", 0, 0, repetitions);
-    print_ratio("lernazhup_write", "copying_write", 0.8, 1.5, repetitions);
-    print_ratio("receiver", "lernazhup_read", 3.0, 3.0, repetitions);
-    print_ratio("receiver", "record handed on", 0, 1.6, repetitions);
-    print_ratio("record handed on", "lernazhup_read", 0, 0, repetitions);
-    print_ratio("lernazhup_read, no errors", "usual_read, no errors", 0, 0, repetitions);
-    print_ratio("lernazhup_read", "best_read", 0, 0, repetitions);
-    print_ratio("usual_read", "best_read", 0, 0, repetitions);
+    for (i = 0; i < sizeof ratios / sizeof ratios[0]; i++)
+        for (mode = 0; mode < MODES; mode++)
+            print_ratio(&ratios[i], mode, repetitions);
 }
 
 int main(int argc, char **argv)

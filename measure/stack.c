@@ -14,7 +14,7 @@
 
 #include "lernazhup.h"
 
-enum { LIMIT = 4096, STACK = 65536, OCTETS = LERNAZHUP_REPORT_MAX };
+enum { MODES = 3, LIMIT = 4096, STACK = 65536, OCTETS = LERNAZHUP_REPORT_MAX };
 enum { WRITE, READ, START, PUSH, FINISH, TAKE, CALLS };
 static const char *const names[CALLS] = {"write", "read", "start", "push", "finish", "take"};
 
@@ -143,18 +143,19 @@ static size_t depth(const struct calls *which)
     return first > second ? first : second;
 }
 
-/* Notes what a call with the given inputs uses, in the row of a mode; row 2 is for a mode that no
- * radio has. The empty call goes first so that the answer left behind is the library's. */
-static size_t most[CALLS][3];
+/* Notes what a call with the given inputs uses, in the column of a mode; the column behind them is
+ * for a mode that no radio has. The empty call goes first so that the answer left behind is the
+ * library's. */
+static size_t most[CALLS][MODES + 1];
 
-static void note(int which, uint32_t row)
+static void note(int which, uint32_t column)
 {
     size_t without, with;
     current = which;
     without = depth(&empty);
     with = depth(&library);
-    if (with > without && with - without > most[which][row])
-        most[which][row] = with - without;
+    if (with > without && with - without > most[which][column])
+        most[which][column] = with - without;
 }
 
 static void expect(uint32_t number, uint32_t expected, int which)
@@ -209,7 +210,7 @@ static void measure_broken_reads(uint32_t mode, size_t octet)
     chips[at + length - 1] = 2;
     note(READ, mode);
     expect(reading.number, LERNAZHUP_NOCHIP, READ);
-    for (i = 0; i < length; i++) /* mode 1: the chips of odd index turn the value's top bit */
+    for (i = 0; i < length; i++) /* modes 1 and 2: chips of odd index turn the value's top bit */
         chips[at + i] = (uint8_t)(kept[i] ^ (mode == 0 || i % 2 == 1));
     note(READ, mode);
     expect(reading.number, number_for_other(octet), READ);
@@ -297,22 +298,38 @@ static void measure_receiver(uint32_t mode)
 
 static void measure_no_radio(void)
 {
-    given.mode = 2;
-    note(WRITE, 2);
-    note(READ, 2);
-    note(START, 2);
+    given.mode = MODES;
+    note(WRITE, MODES);
+    note(READ, MODES);
+    note(START, MODES);
     expect(step.number, LERNAZHUP_BADMODE, START);
     given.receiver = step.receiver;
-    note(PUSH, 2);
-    note(FINISH, 2);
-    note(TAKE, 2);
+    note(PUSH, MODES);
+    note(FINISH, MODES);
+    note(TAKE, MODES);
+}
+
+/* Gives whether a call exceeds the limit. */
+static int print_table(void)
+{
+    int which, column, exceeded = 0;
+    printf("| call | bytes of stack beyond an empty call, mode 0 | mode 1 | mode 2 | no radio |\n|---|---|---|---|---|\n");
+    for (which = 0; which < CALLS; which++) {
+        printf("| %s |", names[which]);
+        for (column = 0; column <= MODES; column++) {
+            printf(" %lu |", (unsigned long)most[which][column]);
+            exceeded |= most[which][column] > LIMIT;
+        }
+        printf("\n");
+    }
+    printf("\nLimit %d: %s\n", LIMIT, exceeded ? "exceeded" : "kept");
+    return exceeded;
 }
 
 int main(void)
 {
     uint32_t mode;
-    int which, exceeded = 0;
-    for (mode = 0; mode < 2; mode++) {
+    for (mode = 0; mode < MODES; mode++) {
         memset(report, 0x53, sizeof report);
         measure_write(mode);
         spoil(mode);
@@ -320,13 +337,5 @@ int main(void)
         measure_receiver(mode);
     }
     measure_no_radio();
-    printf("| call | bytes of stack beyond an empty call, mode 0 | mode 1 | no radio |\n|---|---|---|---|\n");
-    for (which = 0; which < CALLS; which++) {
-        printf("| %s | %lu | %lu | %lu |\n", names[which], (unsigned long)most[which][0], (unsigned long)most[which][1],
-               (unsigned long)most[which][2]);
-        for (mode = 0; mode < 3; mode++)
-            exceeded |= most[which][mode] > LIMIT;
-    }
-    printf("\nLimit %d: %s\n", LIMIT, exceeded ? "exceeded" : "kept");
-    return exceeded;
+    return print_table();
 }

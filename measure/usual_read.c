@@ -38,14 +38,20 @@ struct radio {
 
 static const uint32_t bpsk_words[2] = {0x7AC8, 0x0537};
 
-static const uint32_t oqpsk_words[16] = {
+static const uint32_t oqpsk32_words[16] = {
     0xD9C3522E, 0xED9C3522, 0x2ED9C352, 0x22ED9C35, 0x522ED9C3, 0x3522ED9C, 0xC3522ED9, 0x9C3522ED,
     0x8C96077B, 0xB8C96077, 0x7B8C9607, 0x77B8C960, 0x077B8C96, 0x6077B8C9, 0x96077B8C, 0xC96077B8,
 };
 
-static const struct radio radios[2] = {
+static const uint32_t oqpsk16_words[16] = {
+    0x3E25, 0x4F89, 0x53E2, 0x94F8, 0x253E, 0x894F, 0xE253, 0xF894,
+    0x6B70, 0x1ADC, 0x06B7, 0xC1AD, 0x706B, 0xDC1A, 0xB706, 0xADC1,
+};
+
+static const struct radio radios[3] = {
     {15, 1, 6, 2, bpsk_words, 1},
-    {32, 4, 5, 16, oqpsk_words, 0},
+    {32, 4, 5, 16, oqpsk32_words, 0},
+    {16, 4, 2, 16, oqpsk16_words, 0},
 };
 
 /* The octets of a frame: four of preamble, the start octet, the length octet, the report. */
@@ -144,7 +150,7 @@ static lernazhup_reading read_frame(const struct radio *radio, const uint8_t *ch
 
 lernazhup_reading usual_read(uint32_t mode, const uint8_t *chips, size_t chips_len, uint8_t *report, size_t report_len)
 {
-    if (mode > 1)
+    if (mode > 2)
         return refused(LERNAZHUP_BADMODE, 0);
     return read_frame(&radios[mode], chips, chips_len, report, report_len);
 }
