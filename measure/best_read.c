@@ -29,8 +29,8 @@ struct progress {
 enum { FIRST32 = 0, FIRST16 = 4, TABLES = 6 };
 static uint8_t distances[TABLES][256 * 16] __attribute__((aligned(64)));
 
-/* First chip in the lowest bit, as _mm_movemask_epi8 gives it. Both radios turn by an eighth of a
- * word. Bits above the word's are of no use. */
+/* First chip in the lowest bit, as _mm_movemask_epi8 gives it. A turn is an eighth of a word, in
+ * either mode. Bits above the word's are of no use. */
 static uint64_t oqpsk_word(uint64_t first, unsigned length, unsigned value)
 {
     unsigned turn = length / 8 * (value % 8);
