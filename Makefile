@@ -1,6 +1,6 @@
 # make run        a report to a raw capture, the bench program on the captures, and the example
 #                 gateway; with CAPTURE=file the bench program on that capture and nothing else
-# make send       a report to a raw capture: MODE=0 or 1, REPORT=file, OUT=file
+# make send       a report to a raw capture: MODE=0, 1 or 2, REPORT=file, OUT=file
 # make check      programs, library and tests from outside: about two minutes, less where all is
 #                 proved already; SEED=.. and CASES=.. repeat a comparison
 # make test       the gate: make check, then every proof from nothing (`rt ci`)

@@ -2,7 +2,7 @@
  * report is read back, whole and symbol by symbol. Then the aerial is pulled in the middle of the
  * frame, and the same calls refuse: a rope that cannot be heard is not a dry one. Last comes a
  * stream of chips with two frames somewhere in it, which are found by trying.
- *   gateway [MODE]          0 or 1, the default */
+ *   gateway [MODE]          0, 1 or 2; 1 where none is named */
 #include <stdio.h>
 #include <stdlib.h>
 #include <string.h>

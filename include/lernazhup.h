@@ -2,10 +2,11 @@
  *
  * A report is the PSDU, 0 to 127 octets. Chips are hard chips, a byte each, 0 or 1.
  *
- *   mode  radio          chips     accepted distance  chips of the frame of  at most
- *                        a symbol  of a symbol        a report of n octets
- *   0     868/915 BPSK   15        6                  720 + 120 n            15,960
- *   1     2450 O-QPSK    32        5                  384 + 64 n              8,512
+ *   mode  radio           chips     accepted distance  chips of the frame of  at most
+ *                         a symbol  of a symbol        a report of n octets
+ *   0     868/915 BPSK    15        6                  720 + 120 n            15,960
+ *   1     2450 O-QPSK     32        5                  384 + 64 n              8,512
+ *   2     868/915 O-QPSK  16        2                  192 + 32 n              4,256
  *
  * Every call takes every mode number, every buffer and every record, ends, and answers one of the
  * numbers below (take repeats the number that ended a record as it stands). A refusal leaves every
@@ -15,9 +16,10 @@
  * distance. A flat symbol, all 0 or all 1, is always that far from each, so that no frame holds
  * one.
  * What isn't: noise that happens to be near a code word is read as that word. Of 100 random symbols
- * 60.7 are near one in mode 0, which accepts six wrong chips of fifteen, and 0.09 in mode 1. Where
- * noise takes the place of one symbol of a mode 0 report, another report is read three times in
- * ten. To find that is for a check in the report itself; the count of chips repaired is a hint.
+ * 60.7 are near one in mode 0, which accepts six wrong chips of fifteen, 3.3 in mode 2 and 0.09 in
+ * mode 1. Where noise takes the place of one symbol of a report, another report is read three times
+ * in ten in mode 0, three times in a hundred in mode 2 and less than once in a thousand in mode 1.
+ * To find that is for a check in the report itself; the count of chips repaired is a hint.
  *
  * Who finds the frame: the caller. The first chip of a buffer is taken for the first chip of the
  * preamble, and no other beginning is looked for. In a stream, try one chip after the other as the
@@ -60,13 +62,13 @@ extern "C" {
  * rule goes or changes its meaning, so that callers have to do something (CHANGELOG.md says what);
  * the minor number where something is added; the last where nothing changes that a caller sees. */
 #define LERNAZHUP_VERSION_MAJOR 1
-#define LERNAZHUP_VERSION_MINOR 0
-#define LERNAZHUP_VERSION_PATCH 1
-#define LERNAZHUP_VERSION "1.0.1"
+#define LERNAZHUP_VERSION_MINOR 1
+#define LERNAZHUP_VERSION_PATCH 0
+#define LERNAZHUP_VERSION "1.1.0"
 
 /* The numbers given back. */
 #define LERNAZHUP_DONE 0u      /* done                                write, read, push, take */
-#define LERNAZHUP_BADMODE 1u   /* mode is neither 0 nor 1             write, read, start; take */
+#define LERNAZHUP_BADMODE 1u   /* mode above 2                        write, read, start; take */
 #define LERNAZHUP_TOOLONG 2u   /* report longer than 127              write */
 #define LERNAZHUP_NOROOM 3u    /* lent buffer too short               write, read, take */
 #define LERNAZHUP_RUNOUT 4u    /* chips run out                       read, finish; take */
@@ -88,22 +90,28 @@ extern "C" {
 #define LERNAZHUP_REPORT_MAX 127
 #define LERNAZHUP_SYMBOL_MODE0 15
 #define LERNAZHUP_SYMBOL_MODE1 32
+#define LERNAZHUP_SYMBOL_MODE2 16
 #define LERNAZHUP_SYMBOL_MAX LERNAZHUP_SYMBOL_MODE1
 #define LERNAZHUP_ACCEPTED_MODE0 6
 #define LERNAZHUP_ACCEPTED_MODE1 5
+#define LERNAZHUP_ACCEPTED_MODE2 2
 #define LERNAZHUP_CHIPS_MAX_MODE0 15960
 #define LERNAZHUP_CHIPS_MAX_MODE1 8512
+#define LERNAZHUP_CHIPS_MAX_MODE2 4256
 #define LERNAZHUP_CHIPS_MAX LERNAZHUP_CHIPS_MAX_MODE0
 
 /* By mode number: the chips of a symbol, how many of them may be wrong, and the chips of the frame
  * of a report of n octets; 0 for a mode that no radio has. Unsigned. Of constants each is a
  * constant, fit for the size of an array. The mode is looked at more than once. */
-#define LERNAZHUP_BY_MODE(mode, of0, of1) ((mode) == 0 ? (of0) : (mode) == 1 ? (of1) : 0u)
-#define LERNAZHUP_SYMBOL_CHIPS(mode) \
-    LERNAZHUP_BY_MODE(mode, LERNAZHUP_SYMBOL_MODE0, LERNAZHUP_SYMBOL_MODE1)
-#define LERNAZHUP_ACCEPTED(mode) \
-    LERNAZHUP_BY_MODE(mode, LERNAZHUP_ACCEPTED_MODE0, LERNAZHUP_ACCEPTED_MODE1)
-#define LERNAZHUP_FRAME_CHIPS(mode, n) (LERNAZHUP_BY_MODE(mode, 120, 64) * (6u + (n)))
+#define LERNAZHUP_BY_MODE(mode, of0, of1, of2) \
+    ((mode) == 0 ? (of0) : (mode) == 1 ? (of1) : (mode) == 2 ? (of2) : 0u)
+#define LERNAZHUP_SYMBOL_CHIPS(mode)                                        \
+    LERNAZHUP_BY_MODE(mode, LERNAZHUP_SYMBOL_MODE0, LERNAZHUP_SYMBOL_MODE1, \
+                      LERNAZHUP_SYMBOL_MODE2)
+#define LERNAZHUP_ACCEPTED(mode)                                                \
+    LERNAZHUP_BY_MODE(mode, LERNAZHUP_ACCEPTED_MODE0, LERNAZHUP_ACCEPTED_MODE1, \
+                      LERNAZHUP_ACCEPTED_MODE2)
+#define LERNAZHUP_FRAME_CHIPS(mode, n) (LERNAZHUP_BY_MODE(mode, 120, 64, 32) * (6u + (n)))
 
 /* What the writer gives back. */
 typedef struct {

@@ -6,7 +6,7 @@ const char *lernazhup_meaning(uint32_t number)
 {
     switch (number) {
     case LERNAZHUP_DONE: return "done";
-    case LERNAZHUP_BADMODE: return "mode is neither 0 nor 1";
+    case LERNAZHUP_BADMODE: return "mode above 2";
     case LERNAZHUP_TOOLONG: return "report longer than 127";
     case LERNAZHUP_NOROOM: return "lent buffer too short";
     case LERNAZHUP_RUNOUT: return "chips run out";

@@ -28,11 +28,11 @@ counts() {
     [ "$failed" -eq 0 ]
 }
 
-# frame NUMBER: the chips, as digits, of that one of the frames in crates/vectors, which were made
-# of the draft standard's tables: 1 and 2 are the empty report's in modes 0 and 1, 3 and 4 "rope
-# 12 wet"
+# frame CHIPS: as digits, that one of the frames in crates/vectors which has so many chips. They
+# were made of the draft standard's tables: 720, 384 and 192 are the empty report's in modes 0, 1
+# and 2, and 2040, 1088 and 544 those of "rope 12 wet"
 frame() {
-    grep -E '^[01]+$' crates/vectors/stdout | sed -n "$1p" | tr -d '\n'
+    awk -v chips="$1" '/^[01]+$/ && length($0) == chips { printf "%s", $0 }' crates/vectors/stdout
 }
 
 chips() { # digits on standard input, as a raw capture

@@ -63,7 +63,7 @@ def main():
             failed += 1
             print(f"python, {what}: {got} and not {want}")
 
-    for mode, size, octet in [(0, 15, 8), (1, 32, 2)]:
+    for mode, size, octet in [(0, 15, 8), (1, 32, 2), (2, 16, 2)]:
         symbols = (6 + len(text)) * octet
         chips = (U8 * (symbols * size))()
         back = (U8 * 127)()

@@ -17,10 +17,13 @@ static void check(const char *what, unsigned long got, unsigned long want)
     }
 }
 
+/* How many modes have a radio: the first number that none has. */
+enum { MODES = 3 };
+
 /* Of constants they are constants. */
 static uint8_t chips[LERNAZHUP_FRAME_CHIPS(0, LERNAZHUP_REPORT_MAX)];
 static uint8_t report[LERNAZHUP_REPORT_MAX];
-#if LERNAZHUP_FRAME_CHIPS(1, 0) != 384 || LERNAZHUP_SYMBOL_CHIPS(0) > LERNAZHUP_SYMBOL_MAX
+#if LERNAZHUP_FRAME_CHIPS(1, 0) != 384 || LERNAZHUP_SYMBOL_CHIPS(2) > LERNAZHUP_SYMBOL_MAX
 #error "sizes can't be asked for before compiling"
 #endif
 
@@ -86,14 +89,14 @@ int main(void)
 {
     uint32_t mode;
     char text[32] = "";
-    for (mode = 0; mode < 2; mode++) {
+    for (mode = 0; mode < MODES; mode++) {
         frames(mode);
         symbols(mode);
         lernazhup_write(mode, report, 5, chips, sizeof chips);
         kept(mode, LERNAZHUP_FRAME_CHIPS(mode, 5));
         kept(mode, LERNAZHUP_FRAME_CHIPS(mode, 5) - 1);
     }
-    for (; mode < 4; mode++) {
+    for (; mode < MODES + 2; mode++) {
         check("a symbol of a mode that no radio has", LERNAZHUP_SYMBOL_CHIPS(mode), 0);
         check("wrong chips accepted there", LERNAZHUP_ACCEPTED(mode), 0);
         check("a frame there", LERNAZHUP_FRAME_CHIPS(mode, 1), 0);
@@ -104,6 +107,7 @@ int main(void)
     check("n an expression", LERNAZHUP_FRAME_CHIPS(1, text[0] ? 1 : 2), 512);
     check("the longest frame of mode 0", LERNAZHUP_CHIPS_MAX_MODE0, LERNAZHUP_FRAME_CHIPS(0, 127));
     check("of mode 1", LERNAZHUP_CHIPS_MAX_MODE1, LERNAZHUP_FRAME_CHIPS(1, 127));
+    check("of mode 2", LERNAZHUP_CHIPS_MAX_MODE2, LERNAZHUP_FRAME_CHIPS(2, 127));
     snprintf(text, sizeof text, "%d.%d.%d", LERNAZHUP_VERSION_MAJOR, LERNAZHUP_VERSION_MINOR,
              LERNAZHUP_VERSION_PATCH);
     check("the version as numbers", strcmp(text, LERNAZHUP_VERSION) == 0, 1);

@@ -62,35 +62,37 @@ static void check_reading(lernazhup_reading got, uint32_t number, uint32_t place
     check("count", got.count, count);
 }
 
-/* Every field of a record that the library itself made: mode 1, five octets, three chips wrong. */
-static lernazhup_receiver stepped(const uint8_t *chips, size_t symbols)
+/* Every field of a record that the library itself made: a mode with two symbols an octet, five
+ * octets, three chips wrong. */
+static lernazhup_receiver stepped(uint32_t mode, const uint8_t *chips, size_t symbols)
 {
-    lernazhup_step step = lernazhup_start(1);
-    size_t k;
+    lernazhup_step step = lernazhup_start(mode);
+    size_t size = LERNAZHUP_SYMBOL_CHIPS(mode), k;
     for (k = 0; k < symbols; k++)
-        step = lernazhup_push(step.receiver, chips + k * LERNAZHUP_SYMBOL_MODE1, LERNAZHUP_SYMBOL_MODE1);
+        step = lernazhup_push(step.receiver, chips + k * size, size);
     return step.receiver;
 }
 
-static void made_by_the_library(void)
+static void made_by_the_library(uint32_t mode, size_t length)
 {
     static const uint8_t report[5] = {0x12, 0x34, 0x56, 0x78, 0x9A};
     uint8_t chips[704], back[LERNAZHUP_REPORT_MAX];
+    size_t second = LERNAZHUP_SYMBOL_CHIPS(mode);
     lernazhup_receiver want;
-    lernazhup_written written = lernazhup_write(1, report, sizeof report, chips, sizeof chips);
+    lernazhup_written written = lernazhup_write(mode, report, sizeof report, chips, length);
     call = "write";
     check("number", written.number, LERNAZHUP_DONE);
-    check("chips", written.chips, 704);
-    written = lernazhup_write(1, report, sizeof report, chips, 703);
+    check("chips", written.chips, length);
+    written = lernazhup_write(mode, report, sizeof report, chips, length - 1);
     check("number of a refusal", written.number, LERNAZHUP_NOROOM);
     check("chips of a refusal", written.chips, 0);
     chips[0] ^= 1;
-    chips[33] ^= 1;
-    chips[34] ^= 1;
+    chips[second + 1] ^= 1;
+    chips[second + 2] ^= 1;
     call = "read";
-    check_reading(lernazhup_read(1, chips, sizeof chips, back, sizeof back), LERNAZHUP_DONE, 22, 5, 3);
+    check_reading(lernazhup_read(mode, chips, length, back, sizeof back), LERNAZHUP_DONE, 22, 5, 3);
     memset(&want, 0, sizeof want);
-    want.mode = 1;
+    want.mode = mode;
     want.ended = LERNAZHUP_MORE;
     want.taken = 15;
     want.length = 5;
@@ -100,15 +102,15 @@ static void made_by_the_library(void)
     want.octet = 0x41;
     want.octets[0] = 0x12;
     call = "push";
-    same_record(stepped(chips, 15), want);
+    same_record(stepped(mode, chips, 15), want);
     call = "take";
-    check_reading(lernazhup_take(stepped(chips, 22), back, sizeof back), LERNAZHUP_DONE, 22, 5, 3);
+    check_reading(lernazhup_take(stepped(mode, chips, 22), back, sizeof back), LERNAZHUP_DONE, 22, 5, 3);
     check("report", (unsigned long)memcmp(back, report, sizeof report), 0);
 }
 
 static void given_back(void)
 {
-    uint8_t part[LERNAZHUP_SYMBOL_MODE1] = {0};
+    uint8_t part[LERNAZHUP_SYMBOL_MAX] = {0};
     lernazhup_receiver record = filled();
     lernazhup_step step = lernazhup_finish(record);
     call = "finish on an ended record";
@@ -130,7 +132,8 @@ static void given_back(void)
 int main(void)
 {
     given_back();
-    made_by_the_library();
+    made_by_the_library(1, 704);
+    made_by_the_library(2, 352);
     printf("fields: %d values carried, %d wrong\n", passed + failed, failed);
     return failed != 0;
 }

@@ -1,7 +1,7 @@
-/* Readings and records, run over the archive and printed, a line each, to be compared with
- * tests/vectors.said. Those lines were worked out from the rules of document 01 by a model that is
- * not kept here, and not by this code (what a receiver holds between symbols, which the document
- * doesn't say, from the definition).
+/* Writings, readings and records, run over the archive and printed, a line each, to be compared
+ * with tests/vectors.said. Those lines were worked out from the rules of document 01 by a model
+ * that is not kept here, and not by this code (what a receiver holds between symbols, which the
+ * document doesn't say, from the definition).
  *
  * Places and lengths are tested before they are used. A case that didn't fit would print no line,
  * and the comparison would show that. */
@@ -12,6 +12,9 @@
 #include "lernazhup.h"
 
 enum { LONGEST = 15960, REPORT = 127, LENT = 200 };
+
+/* How many modes have a radio: the first number that none has. */
+enum { MODES = 3 };
 
 /* What a lent buffer holds before each call. No octet that is sent has this value, so a stored one
  * is a changed one. */
@@ -40,7 +43,7 @@ struct radio {
 
 static struct radio radio_of(uint32_t mode)
 {
-    uint32_t known = mode != 0, size = LERNAZHUP_SYMBOL_CHIPS(known);
+    uint32_t known = mode < MODES ? mode : 1, size = LERNAZHUP_SYMBOL_CHIPS(known);
     return (struct radio){size, LERNAZHUP_ACCEPTED(known), LERNAZHUP_FRAME_CHIPS(known, 0) / 6 / size};
 }
 
@@ -151,10 +154,10 @@ static void make(struct frame frame, uint8_t chips[LONGEST])
 
 /* ---- What is printed of an answer ---- */
 
-static size_t changed(const uint8_t lent[LENT])
+static size_t changed(const uint8_t *lent, size_t length)
 {
     size_t i, count = 0;
-    for (i = 0; i < LENT; i++)
+    for (i = 0; i < length; i++)
         count += lent[i] != BEFORE;
     return count;
 }
@@ -175,9 +178,50 @@ static void tell(size_t n, struct slice sent, const uint8_t lent[LENT])
 static void answered(lernazhup_reading reading, struct slice sent, const uint8_t lent[LENT])
 {
     printf("%" PRIu32 " %" PRIu32 " %" PRIu32 " %" PRIu32 ", %zu changed", reading.number, reading.place, reading.n,
-           reading.count, changed(lent));
+           reading.count, changed(lent, LENT));
     if (reading.number == LERNAZHUP_DONE)
         tell(reading.n, sent, lent);
+}
+
+/* ---- Writings ---- */
+
+/* So many octets written into so much of a lent buffer. What is printed of the chips is how many
+ * bytes they changed: that they are the right ones shows where they are read. */
+static void writing(const char *what, uint32_t mode, size_t octets, size_t room)
+{
+    uint8_t report[REPORT + 1], chips[LONGEST];
+    lernazhup_written written;
+    if (octets > sizeof report || room > LONGEST)
+        return;
+    memset(report, 'Z', sizeof report);
+    memset(chips, BEFORE, LONGEST);
+    written = lernazhup_write(mode, report, octets, chips, room);
+    printf("%s: write %" PRIu32 " octets %zu room %zu gives ", what, mode, octets, room);
+    printf("%" PRIu32 " %" PRIu32 ", %zu changed\n", written.number, written.chips, changed(chips, LONGEST));
+}
+
+/* Just enough room and a byte less, for no octets, for five and for the most; one octet more than
+ * that; and a number that would be this mode, were it cut to 8 or 16 bits. */
+static void writings_of(uint32_t mode)
+{
+    static const uint32_t octets[] = {0, 5, REPORT};
+    size_t k;
+    for (k = 0; k < sizeof octets / sizeof *octets; k++) {
+        writing("room exact", mode, octets[k], octet_at(mode, 6 + octets[k]));
+        writing("room one short", mode, octets[k], octet_at(mode, 6 + octets[k]) - 1);
+    }
+    writing("room left over", mode, REPORT, LONGEST);
+    writing("too long", mode, REPORT + 1, LONGEST);
+    writing("too long, no room", mode, REPORT + 1, 0);
+    writing("no such mode", 256 + mode, 5, LONGEST);
+    writing("no such mode", 65536 + mode, 5, LONGEST);
+}
+
+static void writings_of_none(void)
+{
+    writing("no such mode", MODES, 5, LONGEST);
+    writing("no such mode", MOST, 5, LONGEST);
+    writing("no such mode, too long, no room", MODES, REPORT + 1, 0);
 }
 
 /* ---- Readings ---- */
@@ -325,6 +369,26 @@ static void limits(uint32_t mode)
     line("nine errors in the last symbol", flip(five, five.chips - size, 9));
 }
 
+/* The last symbol, of 0x9F, turned chip by chip into a word that is as near to it as any, which is
+ * what another octet in its place sends: read as the one, then lost, then read as the other. */
+static void between(uint32_t mode)
+{
+    static const uint8_t other_last[MODES] = {0x1F, 0x0F, 0x3F};
+    struct frame five = frame_of(mode, 5);
+    uint8_t octets[5], chips[LONGEST], other[LONGEST];
+    size_t at;
+    memcpy(octets, sample, sizeof octets);
+    octets[4] = other_last[mode];
+    lernazhup_write(mode, octets, sizeof octets, other, LONGEST);
+    make(five, chips);
+    for (at = five.chips - radio_of(mode).size; at < five.chips; at++) {
+        if (chips[at] == other[at])
+            continue;
+        chips[at] = other[at];
+        read_line("one chip more of the nearest other word", mode, slice(chips, five.chips), slice(sample, 5), REPORT);
+    }
+}
+
 /* Errors in every symbol. */
 static void everywhere(uint32_t mode, uint32_t octets)
 {
@@ -337,7 +401,8 @@ static void everywhere(uint32_t mode, uint32_t octets)
 }
 
 /* Mode 0 tells a word from its inverse only by the word before it: inverted from the first symbol
- * on, the preamble isn't zero; from the report on, one bit differs. */
+ * on, the preamble isn't zero; from the report on, one bit differs. In the other modes no word is
+ * near the inverse of one. */
 static void inverted(uint32_t mode)
 {
     struct frame five = frame_of(mode, 5);
@@ -380,18 +445,19 @@ static void headers(uint32_t mode)
     header("length octet 0x80, no room", mode, 0, 0, 0xA7, 0x80);
 }
 
-/* Modes that have no radio. Cut to 8 or 16 bits, 256 and 65536 would be mode 0, whose frame is
- * read, and 257 and 65537 mode 1. */
+/* Each mode's frame in modes that have no radio. Two of them, cut to 8 or 16 bits, would be the
+ * mode whose frame it is. */
 static void no_radio(void)
 {
-    struct frame zero = frame_of(0, 127), one = frame_of(1, 127);
-    line("no such mode", read_as(zero, 2));
-    line("no such mode", read_as(zero, 256));
-    line("no such mode", read_as(zero, 65536));
-    line("no such mode", read_as(zero, MOST));
-    line("no such mode", read_as(one, 257));
-    line("no such mode", read_as(one, 65537));
-    line("no such mode, no chips, no room", with_room(with_chips(read_as(zero, 2), 0), 0));
+    uint32_t mode;
+    for (mode = 0; mode < MODES; mode++) {
+        struct frame longest = frame_of(mode, 127);
+        line("no such mode", read_as(longest, MODES));
+        line("no such mode", read_as(longest, 256 + mode));
+        line("no such mode", read_as(longest, 65536 + mode));
+        line("no such mode", read_as(longest, MOST));
+    }
+    line("no such mode, no chips, no room", with_room(with_chips(read_as(frame_of(0, 0), MODES), 0), 0));
 }
 
 /* A report of five octets is octets 6 to 10 of its frame; one of 127 ends before octet 133. */
@@ -403,6 +469,7 @@ static void readings_of(uint32_t mode)
     bytes(mode);
     flats(mode);
     limits(mode);
+    between(mode);
     everywhere(mode, 5);
     everywhere(mode, 127);
     inverted(mode);
@@ -491,7 +558,7 @@ static void stray(struct tally *tally, lernazhup_receiver record, const uint8_t 
     lernazhup_reading reading;
     memset(lent, BEFORE, LENT);
     reading = lernazhup_take(record, lent, REPORT);
-    count_answer(tally, reading.number, changed(lent) == 0);
+    count_answer(tally, reading.number, changed(lent, LENT) == 0);
     count_stray(tally, record, lernazhup_push(record, chips, size - 1));
     count_stray(tally, record, lernazhup_push(record, chips, size + 1));
     count_stray(tally, record, lernazhup_push(record, NULL, 0));
@@ -576,7 +643,7 @@ static lernazhup_receiver made_up(uint32_t mode, uint32_t ended, uint32_t taken,
  * a mode without a radio has no such distance. */
 static void both(const char *what, uint32_t mode, uint32_t taken, uint32_t length, uint32_t count, struct slice part)
 {
-    uint32_t limit = mode < 2 ? radio_of(mode).limit : 0;
+    uint32_t limit = mode < MODES ? radio_of(mode).limit : 0;
     probe(what, made_up(mode, LERNAZHUP_MORE, taken, length, count), part, 127);
     probe(what, made_up(mode, LERNAZHUP_DONE, taken + 1, length, count + limit), part, 127);
 }
@@ -593,21 +660,21 @@ static void edges(uint32_t mode, uint32_t length, struct slice part)
 }
 
 /* Records with a number that no frame has, and records ended by a refusal, which may hold anything.
- * Cut to 8 bits, 256 and 257 would be modes 0 and 1, and a length of 256 would be 0; with length
+ * Cut to 8 bits, 256 to 258 would be modes 0 to 2, and a length of 256 would be 0; with length
  * 4294967295 the total, cut to 32 bits, would be the symbols of five octets; and a record 65536
  * symbols past its end would be complete. A record of no mode with nothing taken fails no test but
  * that of the mode. */
 static void strange(uint32_t mode, struct slice part)
 {
     uint32_t open = LERNAZHUP_MORE, well = LERNAZHUP_DONE;
-    uint32_t five = symbols_in(mode, 11) - 1, far = five + 65537;
-    both("no such mode", 2, five, 5, 0, part);
-    both("no such mode", 256, five, 5, 0, part);
-    both("no such mode", 257, five, 5, 0, part);
+    uint32_t five = symbols_in(mode, 11) - 1, far = five + 65537, cut;
+    both("no such mode", MODES, five, 5, 0, part);
+    for (cut = 0; cut < MODES; cut++)
+        both("no such mode", 256 + cut, five, 5, 0, part);
     both("no such mode", MOST, five, 5, 0, part);
     both("length 128", mode, symbols_in(mode, 134) - 1, 128, 0, part);
     both("length wraps", mode, symbols_in(mode, 5) - 1, MOST, 0, part);
-    probe("no such mode", made_up(2, well, 0, 0, 0), part, 127);
+    probe("no such mode", made_up(MODES, well, 0, 0, 0), part, 127);
     probe("length 256", made_up(mode, open, 0, 256, 0), part, 127);
     probe("far", made_up(mode, well, far, 5, 0), part, 127);
     probe("most", made_up(mode, open, MOST, 127, MOST), part, 127);
@@ -627,6 +694,29 @@ static void hand(uint32_t mode, uint32_t octet, uint32_t length, struct slice pa
     fates("strange in hand", record, part);
 }
 
+/* Every symbol that there is, pushed as the first of a report, in the modes whose symbols are few
+ * enough to be tried: how many are near a word, as the header says of random ones, and how far they
+ * are from it, all added up. */
+static void every_symbol(uint32_t mode)
+{
+    lernazhup_receiver record = made_up(mode, LERNAZHUP_MORE, symbols_in(mode, 6), 5, 0);
+    uint32_t size = radio_of(mode).size, bits, k, read = 0, lost = 0, repaired = 0;
+    uint8_t part[16];
+    if (size > sizeof part)
+        return;
+    for (bits = 0; bits >> size == 0; bits++) {
+        lernazhup_step step;
+        for (k = 0; k < size; k++)
+            part[k] = bits >> k & 1;
+        step = lernazhup_push(record, part, size);
+        read += step.number == LERNAZHUP_MORE;
+        lost += step.number == LERNAZHUP_LOST;
+        repaired += step.receiver.count;
+    }
+    printf("every symbol: push %" PRIu32 " gives %" PRIu32 " read, %" PRIu32 " lost, ", mode, read, lost);
+    printf("%" PRIu32 " repaired\n", repaired);
+}
+
 /* The first symbol of a frame is what is pushed to made-up records. */
 static void records_of(uint32_t mode)
 {
@@ -642,20 +732,26 @@ static void records_of(uint32_t mode)
     hand(mode, 4, 0, part);
     hand(mode, 5, 0, part);
     hand(mode, 10, 5, part);
+    every_symbol(mode);
 }
 
 int main(void)
 {
+    uint32_t mode;
     make_sample();
-    readings_of(0);
-    readings_of(1);
+    for (mode = 0; mode < MODES; mode++)
+        writings_of(mode);
+    writings_of_none();
+    for (mode = 0; mode < MODES; mode++)
+        readings_of(mode);
     no_radio();
-    records_of(0);
-    records_of(1);
-    /* cut to 8 or 16 bits, 256 and 65536 would be mode 0 */
-    started(2);
-    started(256);
-    started(65536);
+    for (mode = 0; mode < MODES; mode++)
+        records_of(mode);
+    started(MODES);
+    for (mode = 0; mode < MODES; mode++) {
+        started(256 + mode);
+        started(65536 + mode);
+    }
     started(MOST);
     return 0;
 }
