@@ -13,7 +13,7 @@ use borrow.Author.Tests.{eqb-true, eqb-false, ltb-true, ltb-false}
 use Rattle.codes.specs.Chips.{pick, differ, distance}
 use Rattle.codes.specs.Radio.{word, bpsk, bpskWords}
 use Rattle.codes.specs.Packed.{packed, byteOf, digitSum}
-use Rattle.codes.specs.Gathered.{Layout, layoutOf, eightOf, chipIn, listed, chipsIn}
+use Rattle.codes.specs.Gathered.{Layout, layoutOf, eightOf, chipIn, chipsIn}
 use Rattle.codes.specs.Near.{nearness, nearestOf, nearestIn}
 use Rattle.codes.proofs.Tests.{by-test, both-true, every, each}
 use Rattle.codes.proofs.Chips.{distance-both, xor-differ}

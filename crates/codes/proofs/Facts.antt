@@ -59,12 +59,27 @@ pub lowband-ones : (v : ℕ) → v < 16 → ones (word lowband v) ≡ 8
 unfolding everyWord every lowbandWords turnedWords turns turned oddInverted lowbandWord
 lowband-ones v h = eqb-true _ _ (each-word lowband (λ v. eqb (ones (word lowband v)) 8) refl v h)
 
--- a flat symbol stands 8 from every mode 2 word
-pub lowband-flat : (c : ℕ) → c ≤ 1 → (v : ℕ) → v < 16 → distance (replicate 16 c) (word lowband v) ≡ 8
-unfolding everyWord every distance lowbandWords turnedWords turns turned oddInverted lowbandWord
-lowband-flat zero l v h = eqb-true _ _ (each-word lowband (λ v. eqb (distance (replicate 16 0) (word lowband v)) 8) refl v h)
-lowband-flat (suc zero) l v h = eqb-true _ _ (each-word lowband (λ v. eqb (distance (replicate 16 1) (word lowband v)) 8) refl v h)
-lowband-flat (suc (suc c)) l v h = absurd (omega arith)
+-- flat chips, all 0 or all 1, stand d from every word
+abbrev pub FlatApart : Radio → ℕ → Type 0
+FlatApart r d = (c : ℕ) → c ≤ 1 → (v : ℕ) → v < 2 ^ r .bits → distance (replicate (r .size) c) (word r v) ≡ d
+
+flatAt : Radio → ℕ → ℕ → ℕ → Bool
+flatAt r d c v = eqb (distance (replicate (r .size) c) (word r v)) d
+
+flat-apart : (r : Radio) (d : ℕ) → every (flatAt r d 0) (2 ^ r .bits) ≡ true → every (flatAt r d 1) (2 ^ r .bits) ≡ true → FlatApart r d
+unfolding flatAt
+flat-apart r d z o zero l v h = eqb-true _ _ (each (flatAt r d 0) (2 ^ r .bits) z v h)
+flat-apart r d z o (suc zero) l v h = eqb-true _ _ (each (flatAt r d 1) (2 ^ r .bits) o v h)
+flat-apart r d z o (suc (suc c)) l v h = absurd (omega arith)
+
+-- 16 in mode 1, 8 in mode 2
+pub oqpsk-flat : FlatApart oqpsk 16
+unfolding flatAt every distance oqpskWords turnedWords turns turned oddInverted oqpskWord
+oqpsk-flat = flat-apart oqpsk 16 refl refl
+
+pub lowband-flat : FlatApart lowband 8
+unfolding flatAt every distance lowbandWords turnedWords turns turned oddInverted lowbandWord
+lowband-flat = flat-apart lowband 8 refl refl
 
 -- a flat symbol, all 0 or all 1, is farther than the limit from every word
 flatTest : Radio → Bool

@@ -18,7 +18,7 @@ use Rattle.codes.specs.Chips.{pick, bad}
 use Rattle.codes.specs.Radio.{known, radioOf, bpsk, oqpsk, lowband}
 use Rattle.codes.specs.Symbol.{symbolOf}
 use Rattle.codes.specs.Packed.{from, packed}
-use Rattle.codes.specs.Gathered.{Layout, layoutOf, NOEIGHT, gathered, gatheredBy, gatheredAt, eightOf, chipIn, listed, symbolIn}
+use Rattle.codes.specs.Gathered.{Layout, layoutOf, NOEIGHT, gathered, gatheredAt, eightOf, chipIn, listed, symbolIn}
 use Rattle.codes.proofs.Tests.{by-test, not-both, both-true, upto, every, each}
 use Rattle.codes.proofs.Modes.{each-row, everyRow, row-test}
 use Rattle.codes.proofs.Chips.{chip-at, chips-good, window-chip}

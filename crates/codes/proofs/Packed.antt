@@ -1,5 +1,5 @@
 -- Laws of bytes taken as the digits of one number: how eight are packed and had again, the test of
--- eight at once for one that is no chip, sums, masks and exclusive ors of each digit apart, and the
+-- eight at once for one that is no chip, sums and masks of each digit apart, and the
 -- sum of eight digits. Assumes nothing.
 use mathlib.Core.Path.{_≡_, refl, sym, ap, _∙_}
 use mathlib.Core.Bool.{true, false}
@@ -11,7 +11,7 @@ use native.Mathlib.Numerals.{add-one}
 use native.Mathlib.Omega.{arith}
 use lib.Arith.{digits-lt}
 use lib.Pow.{pow-add, pow-pos, shl-exact, high, low, field, mod-pow-add, mod-mod-pow}
-use lib.Bits.{bitAnd, bitOr, bitXor, or-shifted-r, xor-block, and-block, and-high}
+use lib.Bits.{bitAnd, bitOr, or-shifted-r, and-block, and-high}
 use lib.ListN.{length, getD, take, drop, length-drop}
 use lib.Seq.{getD-drop}
 use lib.Dec.{ltb}
@@ -105,26 +105,15 @@ unfolding packed
 packed-both f g zero = omega arith
 packed-both f g (suc k) = omega (arith, packed-both f g k, add-mul (f k) (g k) (2 ^ (k * 8)))
 
--- an operation that works on each run of bits apart works on each digit apart
-module _ (op : ℕ → ℕ → ℕ)
-    (block : (k a b r s : ℕ) → r < 2 ^ k → s < 2 ^ k → op (a * 2 ^ k + r) (b * 2 ^ k + s) ≡ op a b * 2 ^ k + op r s)
-    (none : op 0 0 ≡ 0) where
-  op-packed : (f g : ℕ → ℕ) (k : ℕ) → Bytes f k → Bytes g k → op (packed f k) (packed g k) ≡ packed (λ i. op (f i) (g i)) k
-  unfolding packed
-  op-packed f g zero b d = none
-  op-packed f g (suc k) b d =
-      let bk : Bytes f k = λ i l. b i (omega arith) in
-      let dk : Bytes g k = λ i l. d i (omega arith) in
-      block (k * 8) (f k) (g k) (packed f k) (packed g k) (packed-lt f k bk) (packed-lt g k dk)
-      ∙ rw (op-packed f g k bk dk)
-
--- exclusive or does
-pub xor-packed : (f g : ℕ → ℕ) (k : ℕ) → Bytes f k → Bytes g k → bitXor (packed f k) (packed g k) ≡ packed (λ i. bitXor (f i) (g i)) k
-xor-packed = op-packed bitXor xor-block refl
-
--- and so does a mask
+-- a mask works on each digit apart
 mask-packed : (f m : ℕ → ℕ) (k : ℕ) → Bytes f k → Bytes m k → bitAnd (packed f k) (packed m k) ≡ packed (λ i. bitAnd (f i) (m i)) k
-mask-packed = op-packed bitAnd and-block refl
+unfolding packed
+mask-packed f m zero b d = refl
+mask-packed f m (suc k) b d =
+    let bk : Bytes f k = λ i l. b i (omega arith) in
+    let dk : Bytes m k = λ i l. d i (omega arith) in
+    and-block (k * 8) (f k) (m k) (packed f k) (packed m k) (packed-lt f k bk) (packed-lt m k dk)
+    ∙ rw (mask-packed f m k bk dk)
 
 -- of a number's own digits
 pub mask-digits : (n : ℕ) → n < 2 ^ 64 → (m : ℕ → ℕ) → Bytes m 8 → bitAnd n (packed m 8) ≡ packed (λ i. bitAnd (byteOf n i) (m i)) 8

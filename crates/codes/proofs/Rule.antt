@@ -1,50 +1,61 @@
--- The turning and inverting rule, chip by chip: one test that antt computes over the 512 chips of
--- mode 1's words, and what it says of each, of the definition's words and of the strip that the
--- writer copies from. Assumes nothing.
+-- The turning and inverting rule, chip by chip: one test that antt computes over every chip of a
+-- radio's words, 512 of mode 1's and 256 of mode 2's, and what it says of each, of the definition's
+-- words and of the strip that the writer copies from. Assumes nothing.
 use mathlib.Core.Path.{_≡_, refl, ap, _∙_}
 use mathlib.Core.Bool.{Bool, true}
 use mathlib.Core.List.{List}
-use Prim.Native.Nat.{ℕ, _+_, _-_, _*_, _/_, _%_, _<_}
-use native.Mathlib.Omega.{arith}
-use lib.ListN.{getD}
+use Prim.Native.Nat.{ℕ, _+_, _-_, _*_, _%_, _<_}
+use lib.ListN.{length, getD}
 use lib.Dec.{eqb, ltb}
 use borrow.Author.Tests.{eqb-true}
 use Rattle.codes.specs.Chips.{pick}
-use Rattle.codes.specs.Radio.{oqpsk, word, oqpskWord, oqpskWords, turned, turns, oddInverted, turnedWords}
+use Rattle.codes.specs.Radio.{Radio, radioOf, known, oqpsk, lowband, word, oqpskWord, oqpskWords, lowbandWord, lowbandWords, turned, turns, oddInverted, turnedWords}
 use Rattle.codes.specs.Strip.{stripAt, rowAt}
 use Rattle.codes.proofs.Tests.{every, each}
 use Rattle.codes.proofs.Chips.{window-chip}
 use Rattle.codes.proofs.Runs.{strip-row}
 
--- chip k of symbol v below 8: of symbol 0's word, turned right by four chips v times
-abbrev pub turnedChip : ℕ → ℕ → ℕ
-turnedChip v k = getD oqpskWord ((k + 32 - 4 * v) % 32) 0
+-- chip k of symbol v below 8: of symbol 0's word w, turned right v times by so many chips
+abbrev pub turnedChip : ℕ → List ℕ → ℕ → ℕ → ℕ
+turnedChip by w v k = getD w ((k + length w - by * v) % length w) 0
 
 -- chip k of symbol v: from 8 on, that of symbol v - 8, inverted where k is odd
-abbrev pub ruleChip : ℕ → ℕ → ℕ
-ruleChip v k = pick (ltb v 8) (turnedChip v k) (pick (eqb (k % 2) 1) (1 - turnedChip (v - 8) k) (turnedChip (v - 8) k))
+abbrev pub ruleChip : ℕ → List ℕ → ℕ → ℕ → ℕ
+ruleChip by w v k =
+    pick (ltb v 8) (turnedChip by w v k) (pick (eqb (k % 2) 1) (1 - turnedChip by w (v - 8) k) (turnedChip by w (v - 8) k))
 
--- the rule at chip i of all words in turn
-abbrev ruled : ℕ → Bool
-ruled i = eqb (getD (word oqpsk (i / 32)) (i % 32) 0) (ruleChip (i / 32) (i % 32))
+module _ (r : Radio) (by : ℕ) (w : List ℕ) where
+  -- the rule at chip k of word v, at every chip of it, and at every word
+  abbrev ruled : ℕ → ℕ → Bool
+  ruled v k = eqb (getD (word r v) k 0) (ruleChip by w v k)
 
-every-ruled : every ruled 512 ≡ true
+  abbrev wordRuled : ℕ → Bool
+  wordRuled v = every (ruled v) (r .size)
+
+  abbrev pub allRuled : Bool
+  allRuled = every wordRuled 16
+
+  ruled-chip : allRuled ≡ true → (v k : ℕ) → v < 16 → k < r .size → getD (word r v) k 0 ≡ ruleChip by w v k
+  ruled-chip t v k hv hk = eqb-true _ _ (each (ruled v) (r .size) (each wordRuled 16 t v hv) k hk)
+
+-- chip k of a word, and of the strip from the word's row on
+pub strip-chip : (mode : ℕ) → known mode ≡ true → (v k : ℕ) → v < length (radioOf mode .words) → k < radioOf mode .size
+    → getD (stripAt mode) (rowAt mode v + k) 0 ≡ getD (word (radioOf mode) v) k 0
+strip-chip mode h v k hv hk =
+    window-chip (stripAt mode) (rowAt mode v) (radioOf mode .size) k hk ∙ ap (λ (u : List ℕ). getD u k 0) (strip-row mode h v hv)
+
+-- mode 1: four chips a turn
+pub oqpsk-ruled : allRuled oqpsk 4 oqpskWord ≡ true
 unfolding every oqpskWords turnedWords turns turned oddInverted oqpskWord
-every-ruled = refl
+oqpsk-ruled = refl
 
--- chip k of word v
-pub rule-chip : (v k : ℕ) → v < 16 → k < 32 → getD (word oqpsk v) k 0 ≡ ruleChip v k
-rule-chip v k hv hk =
-    let q : (v * 32 + k) / 32 ≡ v = omega arith in
-    let m : (v * 32 + k) % 32 ≡ k = omega arith in
-    let t : getD (word oqpsk ((v * 32 + k) / 32)) ((v * 32 + k) % 32) 0 ≡ ruleChip ((v * 32 + k) / 32) ((v * 32 + k) % 32) =
-    eqb-true _ _ (each ruled 512 every-ruled (v * 32 + k) (omega arith)) in
-    rw (q, m) at t
+pub oqpsk-chip : (v k : ℕ) → v < 16 → k < 32 → getD (word oqpsk v) k 0 ≡ ruleChip 4 oqpskWord v k
+oqpsk-chip = ruled-chip oqpsk 4 oqpskWord oqpsk-ruled
 
--- and of the strip, from the row of v on
-pub strip-chip : (v k : ℕ) → v < 16 → k < 32 → getD (stripAt 1) (rowAt 1 v + k) 0 ≡ ruleChip v k
-unfolding oqpskWords turnedWords turns
-strip-chip v k hv hk =
-    window-chip (stripAt 1) (rowAt 1 v) 32 k hk
-    ∙ ap (λ (w : List ℕ). getD w k 0) (strip-row 1 refl v (omega arith))
-    ∙ rule-chip v k hv hk
+-- mode 2: two
+pub lowband-ruled : allRuled lowband 2 lowbandWord ≡ true
+unfolding every lowbandWords turnedWords turns turned oddInverted lowbandWord
+lowband-ruled = refl
+
+pub lowband-chip : (v k : ℕ) → v < 16 → k < 16 → getD (word lowband v) k 0 ≡ ruleChip 2 lowbandWord v k
+lowband-chip = ruled-chip lowband 2 lowbandWord lowband-ruled

@@ -3,7 +3,7 @@
 use mathlib.Core.Path.{_≡_, refl, ap, sym, _∙_}
 use mathlib.Core.Bool.{Bool, true, false}
 use mathlib.Core.List.{List, [], _∷_}
-use Prim.Native.Nat.{ℕ, zero, suc, _+_, _-_, _*_, _/_, _%_, _^_, _≤_, _<_}
+use Prim.Native.Nat.{ℕ, _+_, _-_, _*_, _/_, _%_, _^_, _≤_, _<_}
 use native.Mathlib.Nat.{mul-le-mul-left}
 use native.Mathlib.Omega.{arith}
 use lib.ListN.{length, getD, take, drop, set, replicate, length-set, getD-replicate}
@@ -13,9 +13,9 @@ use lib.Dec.{eqb, leb, ltb}
 use borrow.Author.Tests.{eqb-true, eqb-false, leb-true, ltb-true, ltb-false, lt-ltb, le-ltb}
 use Rattle.codes.specs.declared.Phy.{Phy}
 use Rattle.codes.specs.Chips.{pick, bad}
-use Rattle.codes.specs.Radio.{Radio, bpsk, oqpsk, lowband, bpskWords, oqpskWord, oqpskWords, lowbandWord, lowbandWords, turnedWords, turns, turned, oddInverted}
+use Rattle.codes.specs.Radio.{Radio, bpskWords, oqpskWord, oqpskWords, lowbandWord, lowbandWords, turnedWords, turns, turned, oddInverted}
 use Rattle.codes.specs.Radio.{known, radioOf, word}
-use Rattle.codes.specs.Packed.{from, packed}
+use Rattle.codes.specs.Packed.{packed}
 use Rattle.codes.specs.Gathered.{gathered, gatheredAll, listed}
 use Rattle.codes.specs.Phy.{phyOf, noPhy, phyAt}
 use Rattle.codes.specs.Strip.{chipOf, flipOf, stripChip, stripAt, rowBy, rowAt, Fits}

@@ -9,10 +9,9 @@ use lib.Bits.{bitAnd}
 use lib.Dec.{eqb, ltb}
 use lib.Pow.{high, low}
 use borrow.Author.Tests.{eqb-true, ltb-true}
-use Rattle.codes.specs.Chips.{distance}
-use Rattle.codes.specs.Radio.{Radio, Sound, word, oqpsk, lowband}
+use Rattle.codes.specs.Radio.{Radio, Sound, oqpsk, lowband}
 use Rattle.codes.specs.Packed.{packed, byteOf}
-use Rattle.codes.specs.Gathered.{Layout, layoutOf, chipIn, listed, chipsIn}
+use Rattle.codes.specs.Gathered.{layoutOf, chipIn, chipsIn}
 use Rattle.codes.specs.Columns.{firstThird, folded, fourColumns, twoColumns, turnedBits, turnedPair, parted, apartAt, keyOf, nearOf, least}
 use Rattle.codes.specs.Near.{nearness, nearestOf, nearestIn}
 use Rattle.codes.proofs.Tests.{every, each}
@@ -44,6 +43,15 @@ module _ (r : Radio) (S : Sound r) (n : ℕ) (few : n ≤ 16) (even odd : ℕ �
   listed-laid : (at : ℕ → ℕ) → ((m : ℕ) → m < n → at m < r .size) → laid (λ m. chipIn (layoutOf r) bits (at m)) n ≡ laid (part at symbol) n
   listed-laid at h =
       laid-cong (λ m. chipIn (layoutOf r) bits (at m)) (part at symbol) n (λ m l. sym (listed-at (chipIn (layoutOf r) bits) (r .size) (at m) (h m l)))
+
+  -- so where a number's columns are the chips laid, and those of word 0 are p and q
+  columns-nearest : (t : ℕ) → firstThird t ≡ laid (λ m. chipIn (layoutOf r) bits (even m)) n
+      → firstThird (t / 256) ≡ laid (λ m. chipIn (layoutOf r) bits (odd m)) n
+      → ((m : ℕ) → m < n → even m < r .size) → ((m : ℕ) → m < n → odd m < r .size)
+      → (e o : ℕ) → e ≡ firstThird t → o ≡ firstThird (t / 256) → (p′ q′ : ℕ) → p′ ≡ p → q′ ≡ q → (m : ℕ)
+      → m ≡ least 0xFFFF (keyOf (apartAt n (parted e p′) (parted o q′))) 16 → nearOf m ≡ nearestOf r symbol
+  columns-nearest t le lo ie io e o ee eo p′ q′ ep eq m em =
+      key-nearest e o (omega (arith, ee)) (omega (arith, eo)) (ee ∙ le ∙ listed-laid even ie) (eo ∙ lo ∙ listed-laid odd io) m (rw (ep, eq) at em)
 
 -- chip j of eight e, whose index is i, where the eights stand one after the other
 chip-of : (eights lift bits e i j : ℕ) → i ≡ e * 8 + j → j < 8
@@ -154,14 +162,9 @@ module _ (bits : ℕ) (fits : bits < 2 ^ 64) where
     pub four-nearest : (e o : ℕ) → e ≡ firstThird t → o ≡ firstThird (t / 256) → (p q : ℕ) → p ≡ 0xE887 → q ≡ 0x1B95 → (m : ℕ)
         → m ≡ least 0xFFFF (keyOf (apartAt 16 (parted e p) (parted o q))) 16 → nearOf m ≡ nearestIn 1 bits
     unfolding nearestIn
-    four-nearest e o ee eo p q ep eq m em =
-        key-nearest oqpsk sound-oqpsk 16 (omega arith) (evenAt 4) (oddAt 4) 0xE887 0x1B95 columned-oqpsk bits e o
-        (omega (arith, ee)) (omega (arith, eo))
-        (ee ∙ evens-laid ∙ inside (evenAt 4) (λ m l. omega arith)) (eo ∙ odds-laid ∙ inside (oddAt 4) (λ m l. omega arith))
-        m (rw (ep, eq) at em)
-      where
-        inside : (at : ℕ → ℕ) → ((m : ℕ) → m < 16 → at m < 32) → laid (λ m. chip (at m)) 16 ≡ laid (part at (chipsIn oqpsk bits)) 16
-        inside = listed-laid oqpsk sound-oqpsk 16 (omega arith) (evenAt 4) (oddAt 4) 0xE887 0x1B95 columned-oqpsk bits
+    four-nearest =
+        columns-nearest oqpsk sound-oqpsk 16 (omega arith) (evenAt 4) (oddAt 4) 0xE887 0x1B95 columned-oqpsk bits t evens-laid odds-laid
+        (λ m l. omega arith) (λ m l. omega arith)
 
 -- mode 2
 one-column : every (λ v. ltb (turnedPair 0xC6 v) 256) 8 ≡ true
@@ -242,11 +245,6 @@ module _ (bits : ℕ) (fits : bits < 2 ^ 64) where
     pub two-nearest : (e o : ℕ) → e ≡ firstThird t → o ≡ firstThird (t / 256) → (p q : ℕ) → p ≡ 0x2E → q ≡ 0xC6 → (m : ℕ)
         → m ≡ least 0xFFFF (keyOf (apartAt 8 (parted e p) (parted o q))) 16 → nearOf m ≡ nearestIn 2 bits
     unfolding nearestIn
-    two-nearest e o ee eo p q ep eq m em =
-        key-nearest lowband sound-lowband 8 (omega arith) (evenAt 2) (oddAt 2) 0x2E 0xC6 columned-lowband bits e o
-        (omega (arith, ee)) (omega (arith, eo))
-        (ee ∙ evens₂-laid ∙ inside (evenAt 2) (λ m l. omega arith)) (eo ∙ odds₂-laid ∙ inside (oddAt 2) (λ m l. omega arith))
-        m (rw (ep, eq) at em)
-      where
-        inside : (at : ℕ → ℕ) → ((m : ℕ) → m < 8 → at m < 16) → laid (λ m. chip₂ (at m)) 8 ≡ laid (part at (chipsIn lowband bits)) 8
-        inside = listed-laid lowband sound-lowband 8 (omega arith) (evenAt 2) (oddAt 2) 0x2E 0xC6 columned-lowband bits
+    two-nearest =
+        columns-nearest lowband sound-lowband 8 (omega arith) (evenAt 2) (oddAt 2) 0x2E 0xC6 columned-lowband bits t evens₂-laid odds₂-laid
+        (λ m l. omega arith) (λ m l. omega arith)

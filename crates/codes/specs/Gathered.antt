@@ -2,7 +2,7 @@
 -- symbol read there, shown to be that of the chips in proofs/Gathering.antt.
 use Prim.Native.Nat.{ℕ, zero, suc, _+_, _-_, _*_, _/_, _%_, _^_}
 use mathlib.Core.List.{List, [], _∷_}
-use lib.ListN.{length, getD, take, drop}
+use lib.ListN.{length, take, drop}
 use lib.Dec.{ltb}
 use Rattle.codes.specs.declared.Symbol.{Symbol}
 use Rattle.codes.specs.Numbers.{BADMODE}

@@ -3,7 +3,7 @@
 use mathlib.Core.Path.{_≡_, refl, ap, _∙_}
 use mathlib.Core.Bool.{Bool, true, false, not}
 use mathlib.Core.List.{List, [], _∷_}
-use mathlib.Core.Logic.{_⊎_, inl, inr, ⊎-elim}
+use mathlib.Core.Logic.{_⊎_, inl, inr}
 use Prim.Native.Nat.{ℕ, _+_, _*_}
 use lib.ListN.{length, take}
 use lib.Dec.{eqb, ltb}
@@ -18,7 +18,7 @@ use Rattle.frame.specs.Frame.{startOctet, perOctet}
 use Rattle.reader.specs.declared.Hand.{Hand}
 use Rattle.reader.specs.Order.{Answer, refused, done, both, ends, rules}
 use Rattle.reader.specs.Read.{told}
-use Rattle.reader.specs.Taking.{stopped, rawFrom, shifted, lengthAfter, moved, advanced, followed, keptAt}
+use Rattle.reader.specs.Taking.{stopped, rawFrom, shifted, lengthAfter, moved, advanced, followed}
 use Rattle.reader.proofs.Steps.{followed-stops, kept-stops}
 use Rattle.receiver.specs.declared.Receiver.{Receiver}
 use Rattle.receiver.specs.declared.Step.{Step}

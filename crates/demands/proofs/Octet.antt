@@ -9,7 +9,7 @@ use lib.ListN.{length, take, drop, length-take, length-drop, take-append-drop}
 use lib.Seq.{take-nil, take-at, drop-at, drop-drop, length-take-le, take-take}
 use Rattle.codes.specs.Radio.{Radio, Sound}
 use Rattle.frame.specs.Frame.{perOctet, rawOf, raws}
-use Rattle.frame.proofs.Count.{digits-long}
+use Rattle.frame.proofs.Count.{raw-long}
 use Rattle.frame.proofs.Below.{Below, below-take, below-drop}
 use Rattle.reader.specs.Received.{valueOf, octetAt, octetsFrom}
 use Rattle.reader.proofs.Raw.{octet-values}
@@ -70,7 +70,7 @@ module _ (r : Radio) (S : Sound r) where
   unfolding octetsFrom raws
   octets-raws [] p = refl
   octets-raws (x ∷ xs) p =
-      let l = digits-long (perOctet r) (2 ^ r .bits) x in
+      let l = raw-long r x in
       rw (
         zero-mul,
         take-at (rawOf r x) (raws r xs) (perOctet r) l,

@@ -1,26 +1,27 @@
--- The bench sheet of document 01, A to L, shown of the definitions together in one statement.
--- Assumes nothing.
+-- The bench sheet of document 01, A to L, shown of the definitions together in one statement, and
+-- beside it those of its lines that mode 2 has. Assumes nothing.
 use mathlib.Core.Path.{_≡_, refl}
-use mathlib.Core.Bool.{Bool}
 use mathlib.Core.List.{List, [], _∷_}
-use Prim.Native.Nat.{ℕ, zero, suc, _-_, _≤_, _<_}
+use Prim.Native.Nat.{ℕ, zero, suc, _-_, _≤_}
 use native.Mathlib.Omega.{arith}
 use lib.ListN.{length, take, drop, replicate}
-use lib.Dec.{eqb}
-use borrow.Author.Tests.{eqb-true}
 use Rattle.codes.specs.Numbers.{LOST}
 use Rattle.codes.specs.Chips.{distance, bad}
-use Rattle.codes.specs.Radio.{word, bpsk, oqpsk, bpskWords, oqpskWord, oqpskWords, turnedWords, turns, turned, oddInverted}
+use Rattle.codes.specs.Radio.{Radio, word, bpsk, oqpsk, lowband, bpskWords, oqpskWord, oqpskWords, lowbandWord, lowbandWords, turnedWords, turns, turned, oddInverted}
 use Rattle.codes.specs.Symbol.{refused, reads, within, first, valued, symbolOf}
-use Rattle.codes.proofs.Tests.{every, each}
+use Rattle.codes.proofs.Facts.{FlatApart, oqpsk-flat, lowband-flat}
 use Rattle.frame.specs.Frame.{digits, raws, encode, symbols, frame}
-use Rattle.frame.proofs.Count.{bpsk-chips, oqpsk-chips}
+use Rattle.frame.proofs.Count.{bpsk-chips, oqpsk-chips, lowband-chips}
 
 -- chips with the first k inverted
 abbrev pub inverted : ℕ → List ℕ → List ℕ
 inverted zero w = w
 inverted (suc k) [] = []
 inverted (suc k) (x ∷ w) = (1 - x) ∷ inverted k w
+
+-- a symbol of flat chips, all 0 or all 1, is d from every word: 6
+abbrev pub Flat : Radio → ℕ → Type 0
+Flat r d = FlatApart r d × ((c : ℕ) → c ≤ 1 → symbolOf r (replicate (r .size) c) ≡ refused LOST)
 
 pub record BenchSheet : Type 0 where
   -- mode 1 words 0 and 9 differ in 12 chips
@@ -30,7 +31,7 @@ pub record BenchSheet : Type 0 where
   -- 0 and 8 in 16
   pub C : distance (word oqpsk 0) (word oqpsk 8) ≡ 16
   -- 32 flat chips, all 0 or all 1, are 16 from every mode 1 word: 6
-  pub D : (c : ℕ) → c ≤ 1 → ((v : ℕ) → v < 16 → distance (replicate 32 c) (word oqpsk v) ≡ 16) × (symbolOf oqpsk (replicate 32 c) ≡ refused LOST)
+  pub D : Flat oqpsk 16
   -- 15 zeros are 7 from the word for 1 and 8 from the word for 0: 6
   pub E : (distance (replicate 15 0) (word bpsk 1) ≡ 7) × (distance (replicate 15 0) (word bpsk 0) ≡ 8) × (symbolOf bpsk (replicate 15 0) ≡ refused LOST)
   -- 15 ones are 7 from the word for 0: 6
@@ -50,15 +51,30 @@ pub record BenchSheet : Type 0 where
   -- five octets give 704 chips in mode 1 and 1,320 in mode 0
   pub L : (report : List ℕ) → length report ≡ 5 → (length (frame oqpsk report) ≡ 704) × (length (frame bpsk report) ≡ 1320)
 
--- the test of D over every word
-flat : ℕ → ℕ → Bool
-flat c v = eqb (distance (replicate 32 c) (word oqpsk v)) 16
+-- mode 2's, each under the letter of the line that it is like
+pub record LowbandSheet : Type 0 where
+  -- words 0 and 10 differ in 6 chips
+  pub A : distance (word lowband 0) (word lowband 10) ≡ 6
+  -- 0 and 3 in 10
+  pub B : distance (word lowband 0) (word lowband 3) ≡ 10
+  -- 0 and 8 in 8
+  pub C : distance (word lowband 0) (word lowband 8) ≡ 8
+  -- 16 flat chips, all 0 or all 1, are 8 from every word: 6
+  pub D : Flat lowband 8
+  -- word 0 with its first two chips inverted reads as 0 at distance 2
+  pub G : symbolOf lowband (inverted 2 (word lowband 0)) ≡ reads 0 2
+  -- with its first three inverted: 6
+  pub H : symbolOf lowband (inverted 3 (word lowband 0)) ≡ refused LOST
+  -- the start octet is symbols 7, 10
+  pub K : (report : List ℕ) → take 2 (drop 8 (symbols lowband report)) ≡ 7 ∷ 10 ∷ []
+  -- five octets give 352 chips
+  pub L : (report : List ℕ) → length report ≡ 5 → length (frame lowband report) ≡ 352
 
-D-of : (c : ℕ) → c ≤ 1 → ((v : ℕ) → v < 16 → distance (replicate 32 c) (word oqpsk v) ≡ 16) × (symbolOf oqpsk (replicate 32 c) ≡ refused LOST)
-unfolding flat every distance bad within first valued symbolOf oqpskWords turnedWords turns turned oddInverted oqpskWord
-D-of zero h = (λ v l. eqb-true _ _ (each (flat 0) 16 refl v l), refl)
-D-of (suc zero) h = (λ v l. eqb-true _ _ (each (flat 1) 16 refl v l), refl)
-D-of (suc (suc c)) h = absurd (omega arith)
+lost-flat : (r : Radio) → symbolOf r (replicate (r .size) 0) ≡ refused LOST → symbolOf r (replicate (r .size) 1) ≡ refused LOST
+    → (c : ℕ) → c ≤ 1 → symbolOf r (replicate (r .size) c) ≡ refused LOST
+lost-flat r z o zero h = z
+lost-flat r z o (suc zero) h = o
+lost-flat r z o (suc (suc c)) h = absurd (omega arith)
 
 pub bench : BenchSheet
 unfolding distance bad within first valued symbolOf bpskWords oqpskWords turnedWords turns turned oddInverted oqpskWord digits raws encode symbols
@@ -67,7 +83,7 @@ bench =
       A = refl;
       B = refl;
       C = refl;
-      D = D-of;
+      D = (oqpsk-flat, lost-flat oqpsk refl refl);
       E = (refl, refl, refl);
       F = (refl, refl);
       G = refl;
@@ -76,4 +92,18 @@ bench =
       J = (refl, refl);
       K = λ report. (refl, refl);
       L = λ report h. (omega (arith, oqpsk-chips report), omega (arith, bpsk-chips report));
+    }
+
+pub lowband-bench : LowbandSheet
+unfolding distance bad within first valued symbolOf lowbandWords turnedWords turns turned oddInverted lowbandWord digits raws encode symbols
+lowband-bench =
+    record {
+      A = refl;
+      B = refl;
+      C = refl;
+      D = (lowband-flat, lost-flat lowband refl refl);
+      G = refl;
+      H = refl;
+      K = λ report. refl;
+      L = λ report h. omega (arith, lowband-chips report);
     }

@@ -6,35 +6,43 @@ use native.Mathlib.Nat.{zero-mul, suc-mul, mul-assoc, mod-lt}
 use native.Mathlib.Omega.{arith}
 use lib.ListN.{length, length-append}
 use lib.Pow.{pow-pos}
-use Rattle.codes.specs.Radio.{Radio, word, Sound, bpsk, oqpsk}
+use Rattle.codes.specs.Radio.{Radio, word, Sound, bpsk, oqpsk, lowband}
 use Rattle.codes.proofs.Tests.{by-test}
-use Rattle.codes.proofs.Facts.{sound-bpsk, sound-oqpsk}
+use Rattle.codes.proofs.Facts.{sound-bpsk, sound-oqpsk, sound-lowband}
 use Rattle.frame.specs.Putting.{octetChips}
 use Rattle.frame.proofs.Below.{Below, below-append}
 use Rattle.frame.proofs.Chain.{encode-long}
 use Rattle.frame.specs.Frame.{octets, perOctet, digits, rawOf, raws, sent, encode, symbols, chipsOf, frame}
 
-pub digits-long : (k base x : ℕ) → length (digits k base x) ≡ k
+digits-long : (k base x : ℕ) → length (digits k base x) ≡ k
 unfolding digits
 digits-long zero base x = refl
 digits-long (suc k) base x = ap suc (digits-long k base (x / base))
 
-pub digits-below : (k base x : ℕ) → 0 < base → Below base (digits k base x)
+digits-below : (k base x : ℕ) → 0 < base → Below base (digits k base x)
 unfolding digits
 digits-below zero base x h = tt
 digits-below (suc k) base x h = (mod-lt x h, digits-below k base (x / base) h)
 
 module _ (r : Radio) where
+  -- of an octet
+  pub raw-long : (x : ℕ) → length (rawOf r x) ≡ perOctet r
+  raw-long x = digits-long (perOctet r) (2 ^ r .bits) _
+
+  pub raw-below : (x : ℕ) → Below (2 ^ r .bits) (rawOf r x)
+  raw-below x = digits-below (perOctet r) (2 ^ r .bits) _ (pow-pos (r .bits))
+
+  -- of octets
   pub raws-long : (xs : List ℕ) → length (raws r xs) ≡ length xs * perOctet r
   unfolding raws
   raws-long [] = sym (zero-mul (perOctet r))
   raws-long (x ∷ xs) =
-      omega (arith, length-append (rawOf r x) (raws r xs), digits-long (perOctet r) (2 ^ r .bits) x, raws-long xs, suc-mul (length xs) (perOctet r))
+      omega (arith, length-append (rawOf r x) (raws r xs), raw-long x, raws-long xs, suc-mul (length xs) (perOctet r))
 
   pub raws-below : (xs : List ℕ) → Below (2 ^ r .bits) (raws r xs)
   unfolding raws
   raws-below [] = tt
-  raws-below (x ∷ xs) = below-append (2 ^ r .bits) (rawOf r x) (raws r xs) (digits-below (perOctet r) (2 ^ r .bits) x (pow-pos (r .bits))) (raws-below xs)
+  raws-below (x ∷ xs) = below-append (2 ^ r .bits) (rawOf r x) (raws r xs) (raw-below x) (raws-below xs)
 
   -- symbols of a frame
   pub symbols-long : (report : List ℕ) → length (symbols r report) ≡ (6 + length report) * perOctet r
@@ -62,8 +70,8 @@ module _ (r : Radio) (S : Sound r) where
   -- chips of an octet
   pub octet-long : (last x : ℕ) → length (chipsOf r (encode r last (rawOf r x))) ≡ octetChips r
   octet-long last x =
-      chips-long (encode r last (rawOf r x)) (encode-below last (rawOf r x) (digits-below (perOctet r) (2 ^ r .bits) x (pow-pos (r .bits))))
-      ∙ ap (λ (n : ℕ). n * r .size) (encode-long r last (rawOf r x) ∙ digits-long (perOctet r) (2 ^ r .bits) x)
+      chips-long (encode r last (rawOf r x)) (encode-below last (rawOf r x) (raw-below r x))
+      ∙ ap (λ (n : ℕ). n * r .size) (encode-long r last (rawOf r x) ∙ raw-long r x)
 
   -- each symbol of a frame has a word
   pub symbols-below : (report : List ℕ) → Below (2 ^ r .bits) (symbols r report)
@@ -82,9 +90,12 @@ module _ (r : Radio) (S : Sound r) where
       ∙ ap (λ (n : ℕ). n * r .size) (symbols-long r report)
       ∙ mul-assoc (6 + length report) (perOctet r) (r .size)
 
--- A frame has 720 + 120n chips in mode 0 and 384 + 64n in mode 1.
+-- A frame has 720 + 120n chips in mode 0, 384 + 64n in mode 1 and 192 + 32n in mode 2.
 pub bpsk-chips : (report : List ℕ) → length (frame bpsk report) ≡ 720 + 120 * length report
 bpsk-chips report = omega (arith, frame-long bpsk sound-bpsk report)
 
 pub oqpsk-chips : (report : List ℕ) → length (frame oqpsk report) ≡ 384 + 64 * length report
 oqpsk-chips report = omega (arith, frame-long oqpsk sound-oqpsk report)
+
+pub lowband-chips : (report : List ℕ) → length (frame lowband report) ≡ 192 + 32 * length report
+lowband-chips report = omega (arith, frame-long lowband sound-lowband report)

@@ -3,14 +3,14 @@
 -- Chain.antt's. Assumes nothing.
 use mathlib.Core.Path.{_≡_, refl, sym, ap, _∙_}
 use mathlib.Core.List.{List, [], _∷_, _++_, append-assoc}
-use Prim.Native.Nat.{ℕ, _+_, _*_, _^_}
+use Prim.Native.Nat.{ℕ, _+_, _*_}
 use native.Mathlib.Nat.{add-mul, mul-comm}
 use native.Mathlib.Omega.{arith}
 use lib.ListN.{length, take, drop}
 use lib.Seq.{take-at, drop-at}
-use Rattle.codes.specs.Radio.{Radio, bpsk, oqpsk}
+use Rattle.codes.specs.Radio.{Radio, bpsk, oqpsk, lowband}
 use Rattle.frame.specs.Frame.{startOctet, octets, perOctet, rawOf, raws, symbols}
-use Rattle.frame.proofs.Count.{digits-long, raws-long, symbols-long}
+use Rattle.frame.proofs.Count.{raw-long, raws-long, symbols-long}
 
 -- the preamble is before symbol p, the start octet before s, the length octet before l, and the
 -- report after it
@@ -36,7 +36,7 @@ module _ (r : Radio) where
 
   one : (x : ℕ) (ys : List ℕ) → take (perOctet r) (raws r (x ∷ ys)) ≡ rawOf r x
   unfolding raws
-  one x ys = take-at (rawOf r x) (raws r ys) (perOctet r) (digits-long (perOctet r) (2 ^ r .bits) x)
+  one x ys = take-at (rawOf r x) (raws r ys) (perOctet r) (raw-long r x)
 
   pub parts : (p s l k : ℕ) → 4 * perOctet r ≡ p → 5 * perOctet r ≡ s → 6 * perOctet r ≡ l → perOctet r ≡ k → Parts r p s l k
   parts p s l k ep es el ek =
@@ -57,6 +57,10 @@ module _ (r : Radio) where
 pub bpsk-parts : Parts bpsk 32 40 48 8
 bpsk-parts = parts bpsk 32 40 48 8 refl refl refl refl
 
--- preamble 0 to 7, start octet 8 and 9, length octet 10 and 11, report 12 to 11 + 2n
+-- preamble 0 to 7, start octet 8 and 9, length octet 10 and 11, report 12 to 11 + 2n, in mode 1
+-- and in mode 2
 pub oqpsk-parts : Parts oqpsk 8 10 12 2
 oqpsk-parts = parts oqpsk 8 10 12 2 refl refl refl refl
+
+pub lowband-parts : Parts lowband 8 10 12 2
+lowband-parts = parts lowband 8 10 12 2 refl refl refl refl

@@ -15,7 +15,7 @@ use Rattle.codes.proofs.Rows.{row-in, row-next}
 use Rattle.frame.specs.Frame.{perOctet, digits, rawOf, raws, sent, encode, chipsOf}
 use Rattle.frame.specs.Putting.{over, lastSent, octetChips}
 use Rattle.frame.proofs.Over.{over-nil, over-over}
-use Rattle.frame.proofs.Count.{digits-below, sent-below, word-long, octet-long}
+use Rattle.frame.proofs.Count.{raw-below, sent-below, word-long, octet-long}
 use Rattle.frame.proofs.Below.{Below}
 
 module _ (r : Radio) where
@@ -120,7 +120,7 @@ module _ (r : Radio) (xs start : List ℕ) where
       frame-turns S out′ last′ size e l w z =
           record {
             upto = omega arith;
-            value = rw e (last-below r S last (rawOf r (getD xs j 0)) (L .value) (digits-below (perOctet r) (2 ^ r .bits) (getD xs j 0) (pow-pos (r .bits))));
+            value = rw e (last-below r S last (rawOf r (getD xs j 0)) (L .value) (raw-below r (getD xs j 0)));
             same = l ∙ L .same;
             place = omega (arith, L .place, row-next j (octetChips r));
             tail = L .tail

@@ -65,7 +65,7 @@ fn put_frame(mode: u32, report: &[u8], out: &mut [u8])
     } else if mode == 1 {
         let words = codes::strip(1);
         put_octets(1, &words, report, out);
-    } else {
+    } else if mode == 2 {
         let words = codes::strip(2);
         put_octets(2, &words, report, out);
     }

@@ -10,7 +10,6 @@ ghost use lib.Dec.{eqb};
 ghost use Rattle.codes.specs.Radio.{known, radioOf};
 ghost use Rattle.codes.specs.Gathered.{gatheredAt, symbolIn};
 ghost use Rattle.frame.specs.Outcome.{outcome};
-ghost use Rattle.frame.specs.Frame.{perOctet};
 ghost use Rattle.reader.specs.Order.{refused, rules, reading};
 ghost use Rattle.reader.specs.Read.{told, readOf};
 ghost use Rattle.reader.specs.Taking.{begun, stopped, rawBy, shiftedBy, lengthAfter, preambled, moved, onward, followed};

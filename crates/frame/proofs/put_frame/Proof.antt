@@ -24,10 +24,8 @@ strip-requires-3 : tie.Need-strip-requires-3
 strip-requires-3 c κs = search needs
 
 put-octets-requires-3 : tie.Need-put-octets-requires-3
-put-octets-requires-3 c κs =
-    let s = c .before .before .before .before .before .before .before in
-    let m = third (s .args .mode) (s .pre .0) (c .before .before .before .before .if1 .left) (c .before .before .before .if2 .left) in
-    (refl, s .pre .1, rw m at (s .pre .2), c .before .before .strip3 .ensures)
+put-octets-requires-3 c κs = let s = c .before .before .before .before .before .before .before .before in
+    (refl, s .pre .1, rw (c .before .before .before .if3 .taken) at (s .pre .2), c .before .before .strip3 .ensures)
 
 same-length : tie.Need-same-length
 same-length c = search needs
@@ -45,8 +43,11 @@ same-length-3 : tie.Need-same-length-3
 same-length-3 c = search needs
 
 returns-3 : tie.Need-returns-3
-returns-3 c = let s = c .before .before .before .before .before .before .before .before .before .before in
-    rw (third (s .args .mode) (s .pre .0) (c .before .before .before .before .before .before .before .if1 .left) (c .before .before .before .before .before .before .if2 .left)) (c .before .before .put-octets3 .ensures)
+returns-3 c = rw (c .before .before .before .before .before .before .if3 .taken) (c .before .before .put-octets3 .ensures)
+
+returns-4 : tie.Need-returns-4
+returns-4 c = let s = c .before .before .before .before .before in
+    absurd (c .if3 .left (third (s .args .mode) (s .pre .0) (c .before .before .if1 .left) (c .before .if2 .left)))
 
 pub put-frame-spec : {M : Type 1} → statement M
 put-frame-spec =
@@ -63,4 +64,5 @@ put-frame-spec =
     same-length-2
     returns-2
     same-length-3
-    returns-3)
+    returns-3
+    returns-4)

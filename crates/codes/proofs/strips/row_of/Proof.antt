@@ -1,6 +1,5 @@
 -- `row_of` meets its contract: it computes what the definition says, in numbers that fit
 -- (Runs.antt). Assumes nothing.
-use mathlib.Core.Path.{refl}
 use native.Mathlib.Omega.{arith}
 use borrow.Author.Tests.{le-leb, lt-leb}
 use Rattle.codes.specs.Strip.{rowAt}

@@ -1,7 +1,7 @@
 -- `strip` meets its contract: the definition's chips over zeros, in a loop for each half (Runs.antt).
 -- Assumes nothing.
 use Prim.Native.Nat.{_-_, _*_, _≤_}
-use mathlib.Core.Path.{_≡_, ap, _∙_}
+use mathlib.Core.Path.{ap, _∙_}
 use native.Mathlib.Omega.{arith}
 use borrow.Author.Needs.{needs}
 use Rattle.codes.specs.declared.Phy.{Phy}
