@@ -56,7 +56,8 @@ fn ended() -> bool {
     libc::read(STDIN_FILENO, &mut more) == 0
 }
 
-// The lines of a capture, a mode each, at the front of the lent text. Gives back how many bytes they have.
+// The lines of a capture, a mode each, at the front of the lent text. Gives back how many bytes
+// they have.
 fn lines(chips: &[u8], text: &mut [u8]) -> usize
     requires { ⌜ 165 ≤ length (now text) ⌝ }
     ensures { λ r. ⌜ Counts r (now (text .exit)) ⌝ }

@@ -31,9 +31,9 @@ row-test p t =
 pub unknown : (mode : ℕ) → (mode ≡ 0 → ⊥) → (mode ≡ 1 → ⊥) → (mode ≡ 2 → ⊥) → known mode ≡ false
 unknown mode p q r = le-ltb mode 3 (omega arith)
 
--- a mode that has a radio and is neither 0 nor 1 is 2
-pub third : (mode : ℕ) → known mode ≡ true → (mode ≡ 0 → ⊥) → (mode ≡ 1 → ⊥) → mode ≡ 2
-third mode k p q = omega (arith, ltb-true mode 3 k)
+-- a mode that has a radio is one of these
+pub no-other : (mode : ℕ) → known mode ≡ true → (mode ≡ 0 → ⊥) → (mode ≡ 1 → ⊥) → (mode ≡ 2 → ⊥) → ⊥
+no-other mode k p q r = omega (arith, ltb-true mode 3 k)
 
 -- the numbers of a mode that has a radio are that radio's
 pub phy-known : (mode : ℕ) → known mode ≡ true → phyAt mode ≡ phyOf (radioOf mode)

@@ -1,6 +1,6 @@
 -- Laws of bytes taken as the digits of one number: how eight are packed and had again, the test of
--- eight at once for one that is no chip, sums and masks of each digit apart, and the
--- sum of eight digits. Assumes nothing.
+-- eight at once for one that is no chip, sums and masks of each digit apart, and the sum of eight
+-- digits. Assumes nothing.
 use mathlib.Core.Path.{_≡_, refl, sym, ap, _∙_}
 use mathlib.Core.Bool.{true, false}
 use mathlib.Core.List.{List}

@@ -1,5 +1,5 @@
--- The strip of a mode's radio holds each of its words, at the word's row; and how the loops make it.
--- Assumes nothing.
+-- The strip of a mode's radio holds each of its words, at the word's row; and how the loops make
+-- it. Assumes nothing.
 use mathlib.Core.Path.{_≡_, refl, ap, sym, _∙_}
 use mathlib.Core.Bool.{Bool, true, false}
 use mathlib.Core.List.{List, [], _∷_}

@@ -1,5 +1,5 @@
--- Chips among bits laid in columns: the code's columns are the chips, four columns in mode 1 and two
--- in mode 2, and the least key tells the nearest word. Assumes nothing.
+-- Chips among bits laid in columns: the code's columns are the chips, four columns in mode 1 and
+-- two in mode 2, and the least key tells the nearest word. Assumes nothing.
 use mathlib.Core.Path.{_≡_, refl, sym, ap, _∙_}
 use mathlib.Core.Bool.{true}
 use mathlib.Core.List.{List}

@@ -1,6 +1,7 @@
 -- What a reader must believe of the radios: the numbers given back, distance, the radios, reading
--- one symbol. The rest is not among it: `Packed`, `Gathered`, `Columns` and `Near` are what the code
--- computes, shown equal, `Phy` the numbers that it goes by, and `Strip` what the writer copies from.
+-- one symbol. The rest is not among it: `Packed`, `Gathered`, `Columns` and `Near` are what the
+-- code computes, shown equal, `Phy` the numbers that it goes by, and `Strip` what the writer copies
+-- from.
 pub mod Numbers
 pub mod Chips
 pub mod Radio

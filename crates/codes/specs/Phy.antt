@@ -1,6 +1,5 @@
--- A radio's numbers, as the code has them: those of its row, and, not to be believed but shown to
--- serve (proofs/Gathering.antt, proofs/Runs.antt), how its symbols are gathered and word 0 so
--- gathered.
+-- Not to be believed: a radio's numbers as the code has them, those of its row, how its symbols are
+-- gathered, and word 0 so gathered, shown to serve in proofs/Gathering.antt and proofs/Runs.antt.
 use Prim.Native.Nat.{ℕ, _/_, _^_}
 use mathlib.Core.Bool.{false}
 use Rattle.codes.specs.declared.Phy.{Phy}

@@ -1,9 +1,9 @@
 // Radios whose words are eight turns of word 0 and the same eight with their odd chips inverted.
-// Chips are laid in columns of eight bits: bit m of column c is chip nm + c, of n columns. To turn a
-// word right by n chips is to turn each of its columns left by one bit; to invert its odd chips is
-// to invert the odd columns. So words v and v + 8 differ from a symbol in as many even chips, and
-// together in all odd ones: eight pairs of counts give sixteen distances. No word is kept but word
-// 0, and nothing leaves the loops, so the back end looks at eight words at a time
+// Chips are laid in columns of eight bits: bit m of column c is chip nm + c, of n columns. To turn
+// a word right by n chips is to turn each of its columns left by one bit; to invert its odd chips
+// is to invert the odd columns. So words v and v + 8 differ from a symbol in as many even chips,
+// and together in all odd ones: eight pairs of counts give sixteen distances. No word is kept but
+// word 0, and nothing leaves the loops, so the back end looks at eight words at a time
 // (proofs/Words.antt, proofs/Leasts.antt).
 ghost use mathlib.Core.Path.{_≡_};
 ghost use Prim.Native.Nat.{_≤_, _<_, _^_};
@@ -72,9 +72,9 @@ fn first_third(t: u64) -> u16
     (t % 256 + t / 0x10000 % 256 * 256) as u16
 }
 
-// Keys of the words, from the even and the odd chips of the symbol and of word 0: the distance above
-// the word's number and one. (Of the number alone the first would be 0, and the back end would leave
-// that word out of its vectors.) `half` is how many odd chips a word has.
+// Keys of the words, from the even and the odd chips of the symbol and of word 0: the distance
+// above the word's number and one. (Of the number alone the first would be 0, and the back end
+// would leave that word out of its vectors.) `half` is how many odd chips a word has.
 fn keys(evens: u16, odds: u16, even: u16, odd: u16, half: u16) -> [u16; 16]
     requires { ⌜ (half ≤ 16) × Half half (parted odds odd) ⌝ }
     ensures { λ r. ⌜ Keyed (apartAt half (parted evens even) (parted odds odd)) r ⌝ }

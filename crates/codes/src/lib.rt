@@ -4,7 +4,7 @@
 // eight tested as it is gathered, asks `nearest` for the nearest word and has `judge` say whether
 // it is near enough. That at most one word lies within the limit is a law over word length, number
 // of words and limit (proofs/Unique.antt), so the nearest word, where it is within the limit, is
-// that one (proofs/Nearest.antt); how far the words are is counted on the bits (fifteen.rt,
+// that one (proofs/Judging.antt); how far the words are is counted on the bits (fifteen.rt,
 // columns.rt). That the symbol of the bits is that of the chips is shown in proofs/Gathering.antt.
 ghost use mathlib.Core.Path.{_≡_};
 ghost use Prim.Native.Nat.{_+_, _≤_};

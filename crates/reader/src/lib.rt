@@ -118,7 +118,6 @@ fn stop(number: u32, hand: Hand) -> Hand
 
 // The next eight of a symbol, gathered. A call for each radio, with its mode as a constant.
 fn gather_eight(mode: u32, part: &[u8], k: usize, bits: u64) -> u64
-    requires { ⌜ known mode ≡ true ⌝ }
     ensures { λ r. ⌜ r ≡ gatheredAt mode (now (part .entry)) k bits ⌝ }
 {
     if mode == 0 {
@@ -127,12 +126,14 @@ fn gather_eight(mode: u32, part: &[u8], k: usize, bits: u64) -> u64
     if mode == 1 {
         return codes::gather(1, part, k, bits);
     }
-    codes::gather(2, part, k, bits)
+    if mode == 2 {
+        return codes::gather(2, part, k, bits);
+    }
+    codes::NOEIGHT
 }
 
 // The symbol that gathered bits say, taken; likewise.
 fn take_symbol(mode: u32, hand: Hand, bits: u64) -> Hand
-    requires { ⌜ known mode ≡ true ⌝ }
     ensures { λ r. ⌜ r ≡ followed mode hand (symbolIn mode bits) ⌝ }
 {
     if mode == 0 {
@@ -141,7 +142,10 @@ fn take_symbol(mode: u32, hand: Hand, bits: u64) -> Hand
     if mode == 1 {
         return follow(1, hand, codes::judge(1, codes::nearest(1, bits)));
     }
-    follow(2, hand, codes::judge(2, codes::nearest(2, bits)))
+    if mode == 2 {
+        return follow(2, hand, codes::judge(2, codes::nearest(2, bits)));
+    }
+    stop(codes::BADMODE, hand)
 }
 
 // What follows a match, at the symbol after those taken: 1, the symbol's own number where it isn't

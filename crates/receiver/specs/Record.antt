@@ -54,9 +54,9 @@ endedWell c = eqb (c .ended) DONE
 abbrev pub total : Receiver → ℕ
 total c = (6 + c .length) * perOctet (radioOf (c .mode))
 
--- One that is open or ended well is answered 34 if its mode is above 2, its length is above 127, its
--- count is above the accepted distance times the symbols taken, or the number of symbols taken isn't
--- below the frame's total (open) or isn't equal to it (ended well).
+-- One that is open or ended well is answered 34 if its mode is above 2, its length is above 127,
+-- its count is above the accepted distance times the symbols taken, or the number of symbols taken
+-- isn't below the frame's total (open) or isn't equal to it (ended well).
 unfoldable pub forged : Receiver → Bool
 forged c =
     both (either (isOpen c) (endedWell c))

@@ -196,7 +196,7 @@ impl Receiver {
     }
 }
 
-// Each mode's loop is made by itself, of constants.
+// Each mode's loop is made by itself, of constants. What a mode without a radio would get is 1.
 fn read_by_mode(mode: u32, part: &[u8]) -> codes::Symbol
     requires { ⌜ (known mode ≡ true) × (length (now part) ≡ radioOf mode .size) ⌝ }
     ensures { λ r. ⌜ r ≡ symbolOf (radioOf mode) (now (part .entry)) ⌝ }
@@ -207,7 +207,10 @@ fn read_by_mode(mode: u32, part: &[u8]) -> codes::Symbol
     if mode == 1 {
         return read_part(1, part);
     }
-    read_part(2, part)
+    if mode == 2 {
+        return read_part(2, part);
+    }
+    codes::judge(mode, 0)
 }
 
 // The symbol of a part that is one symbol long: gathered and matched as the reader does it.

@@ -1,7 +1,7 @@
 -- `put_frame` meets its contract: a mode that has a radio is 0, 1 or 2, and each is given its own
 -- strip. Assumes nothing.
 use mathlib.Core.Path.{refl}
-use Rattle.codes.proofs.Modes.{third}
+use Rattle.codes.proofs.Modes.{no-other}
 use borrow.Author.Needs.{needs}
 use Rattle.frame.proofs.put_frame.Statement.{statement}
 use Rattle.frame.proofs.put_frame.Tie as tie
@@ -47,7 +47,7 @@ returns-3 c = rw (c .before .before .before .before .before .before .if3 .taken)
 
 returns-4 : tie.Need-returns-4
 returns-4 c = let s = c .before .before .before .before .before in
-    absurd (c .if3 .left (third (s .args .mode) (s .pre .0) (c .before .before .if1 .left) (c .before .if2 .left)))
+    absurd (no-other (s .args .mode) (s .pre .0) (c .before .before .if1 .left) (c .before .if2 .left) (c .if3 .left))
 
 pub put-frame-spec : {M : Type 1} → statement M
 put-frame-spec =

@@ -1,5 +1,6 @@
 -- `gather_eight` meets its contract: a radio a branch. Assumes nothing.
-use Rattle.codes.proofs.Modes.{third}
+use Rattle.codes.specs.Gathered.{gatheredAt}
+use Rattle.codes.proofs.Modes.{unknown}
 use borrow.Author.Needs.{needs}
 use Rattle.reader.proofs.gather_eight.Statement.{statement}
 use Rattle.reader.proofs.gather_eight.Tie as tie
@@ -20,10 +21,13 @@ gather-requires-3 : tie.Need-gather-requires-3
 gather-requires-3 c κs = search needs
 
 returns-3 : tie.Need-returns-3
-returns-3 c = let s = c .before .before .before .before in
-    rw (third (s .args .mode) (s .pre) (c .before .before .if1 .left) (c .before .if2 .left)) (c .gather3 .ensures)
+returns-3 c = rw (c .before .if3 .taken) (c .gather3 .ensures)
+
+returns-4 : tie.Need-returns-4
+unfolding gatheredAt
+returns-4 c = rw (unknown _ (c .before .before .if1 .left) (c .before .if2 .left) (c .if3 .left))
 
 pub gather-eight-spec : {M : Type 1} → statement M
 gather-eight-spec =
     tie.close
-    (tie.spec gather-requires returns gather-requires-2 returns-2 gather-requires-3 returns-3)
+    (tie.spec gather-requires returns gather-requires-2 returns-2 gather-requires-3 returns-3 returns-4)

@@ -173,7 +173,7 @@ chips-holds c = let s = c .before .before .before .before .before .before in
     (refl, loop-starts (s .args .mode) (s .pre .0) _)
 
 gather-eight-requires : tie.Need-gather-eight-requires Inv-chips μ-chips Inv-symbols μ-symbols
-gather-eight-requires c κs = c .before .before .before .before .before .before .before .before .pre .0
+gather-eight-requires c κs = tt
 
 stop-requires : tie.Need-stop-requires Inv-chips μ-chips Inv-symbols μ-symbols
 stop-requires c κs = tt
@@ -194,7 +194,7 @@ chips-again c =
     )
 
 take-symbol-requires : tie.Need-take-symbol-requires Inv-chips μ-chips Inv-symbols μ-symbols
-take-symbol-requires c κs = c .before .before .before .before .before .before .before .before .pre .0
+take-symbol-requires c κs = tt
 
 stop-requires-2 : tie.Need-stop-requires-2 Inv-chips μ-chips Inv-symbols μ-symbols
 stop-requires-2 c κs = tt

@@ -1,9 +1,10 @@
 -- `take_symbol` meets its contract: a radio a branch. Assumes nothing.
 use mathlib.Core.Path.{ap, _∙_}
 use Rattle.codes.specs.Near.{judgedAt}
-use Rattle.codes.proofs.Modes.{third}
+use Rattle.codes.proofs.Modes.{unknown}
 use Rattle.codes.proofs.Judging.{near-symbol}
 use Rattle.reader.specs.Taking.{followed}
+use Rattle.reader.proofs.Steps.{follow-no-radio}
 use borrow.Author.Needs.{needs}
 use Rattle.reader.proofs.take_symbol.Statement.{statement}
 use Rattle.reader.proofs.take_symbol.Tie as tie
@@ -47,9 +48,15 @@ follow-requires-3 c κs = search needs
 
 returns-3 : tie.Need-returns-3
 returns-3 c =
-    let s = c .before .before .before .before .before in
-    rw (third (s .args .mode) (s .pre) (c .before .before .before .before .if1 .left) (c .before .before .before .if2 .left))
+    rw (c .before .before .before .if3 .taken)
     (c .follow3 .ensures ∙ ap (followed 2 _) (c .before .judge3 .ensures ∙ ap (judgedAt 2) (c .before .before .nearest3 .ensures) ∙ near-symbol 2 _))
+
+stop-requires : tie.Need-stop-requires
+stop-requires c κs = search needs
+
+returns-4 : tie.Need-returns-4
+returns-4 c = c .stop .ensures
+    ∙ follow-no-radio _ _ _ (unknown _ (c .before .before .before .if1 .left) (c .before .before .if2 .left) (c .before .if3 .left))
 
 pub take-symbol-spec : {M : Type 1} → statement M
 take-symbol-spec =
@@ -66,4 +73,6 @@ take-symbol-spec =
     nearest-requires-3
     judge-requires-3
     follow-requires-3
-    returns-3)
+    returns-3
+    stop-requires
+    returns-4)

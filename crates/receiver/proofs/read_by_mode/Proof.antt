@@ -1,6 +1,7 @@
 -- `read_by_mode` meets its contract: a radio a branch. Assumes nothing.
 use mathlib.Core.Path.{refl}
-use Rattle.codes.proofs.Modes.{third}
+use Rattle.codes.proofs.Modes.{no-other}
+use borrow.Author.Needs.{needs}
 use Rattle.receiver.proofs.read_by_mode.Statement.{statement}
 use Rattle.receiver.proofs.read_by_mode.Tie as tie
 
@@ -17,13 +18,18 @@ returns-2 : tie.Need-returns-2
 returns-2 c = rw (c .before .if2 .taken) (c .read-part2 .ensures)
 
 read-part-requires-3 : tie.Need-read-part-requires-3
-read-part-requires-3 c κs = let s = c .before .before .before in
-    (refl, rw (third _ (s .pre .0) (c .before .if1 .left) (c .if2 .left)) at (s .pre .1))
+read-part-requires-3 c κs = (refl, rw (c .if3 .taken) at (c .before .before .before .before .pre .1))
 
 returns-3 : tie.Need-returns-3
-returns-3 c = rw (third _ (c .before .before .before .before .pre .0) (c .before .before .if1 .left) (c .before .if2 .left)) (c .read-part3 .ensures)
+returns-3 c = rw (c .before .if3 .taken) (c .read-part3 .ensures)
+
+judge-requires : tie.Need-judge-requires
+judge-requires c κs = search needs
+
+returns-4 : tie.Need-returns-4
+returns-4 c = absurd (no-other _ (c .before .before .before .before .before .pre .0) (c .before .before .before .if1 .left) (c .before .before .if2 .left) (c .before .if3 .left))
 
 pub read-by-mode-spec : {M : Type 1} → statement M
 read-by-mode-spec =
     tie.close
-    (tie.spec read-part-requires returns read-part-requires-2 returns-2 read-part-requires-3 returns-3)
+    (tie.spec read-part-requires returns read-part-requires-2 returns-2 read-part-requires-3 returns-3 judge-requires returns-4)

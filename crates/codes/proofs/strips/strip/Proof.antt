@@ -1,5 +1,5 @@
--- `strip` meets its contract: the definition's chips over zeros, in a loop for each half (Runs.antt).
--- Assumes nothing.
+-- `strip` meets its contract: the definition's chips over zeros, in a loop for each half
+-- (Runs.antt). Assumes nothing.
 use Prim.Native.Nat.{_-_, _*_, _≤_}
 use mathlib.Core.Path.{ap, _∙_}
 use native.Mathlib.Omega.{arith}
