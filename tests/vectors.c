@@ -1,5 +1,5 @@
 /* Writings, readings and records, run over the archive and printed, a line each, to be compared
- * with tests/vectors.said. Those lines were worked out from the rules of document 01 by a model
+ * with tests/vectors.said. Those lines were worked out from the rules of the scope by a model
  * that is not kept here, and not by this code (what a receiver holds between symbols, which the
  * document doesn't say, from the definition).
  *

@@ -1,14 +1,15 @@
--- What the documents print, against the definitions, by computation: the numbers given back, and
--- the code words as source document 000 has them. With two names exchanged, or words turned
--- left, in definition and code alike, every promise and every distance would be the same.
--- Assumes nothing.
+-- What the documents print, against the definitions, by computation: the numbers given back, the
+-- mode numbers, and the code words as source document 000 has them. With two names exchanged, a
+-- mode given to another row, or words turned left, in definition and code alike, every promise and
+-- every distance would be the same. Assumes nothing.
 use mathlib.Core.Path.{_≡_, refl}
 use mathlib.Core.List.{List, [], _∷_, map}
 use Prim.Native.Nat.{ℕ, zero, suc, _/_, _%_, _^_}
 use lib.ListN.{take, drop}
+use lib.Dec.{ltb}
 use Rattle.codes.specs.Numbers.{DONE, BADMODE, TOOLONG, NOROOM, RUNOUT, NOCHIP, LOST, PREAMBLE, BADSTART, RESERVED}
 use Rattle.codes.specs.Numbers.{ENDED, BADPART, NOTENDED, MORE, FORGED}
-use Rattle.codes.specs.Radio.{bpsk, oqpsk, lowband, bpskWords, oqpskWord, oqpskWords, lowbandWord, lowbandWords, turned, turns, oddInverted, turnedWords}
+use Rattle.codes.specs.Radio.{known, radioOf, bpsk, oqpsk, lowband, bpskWords, oqpskWord, oqpskWords, lowbandWord, lowbandWords, turned, turns, oddInverted, turnedWords}
 
 -- the numbers given back, in the order of document 01's table
 pub numbers-listed :
@@ -16,6 +17,10 @@ pub numbers-listed :
     ∷ ENDED ∷ BADPART ∷ NOTENDED ∷ MORE ∷ FORGED ∷ [])
     ≡ (0 ∷ 1 ∷ 2 ∷ 3 ∷ 4 ∷ 5 ∷ 6 ∷ 7 ∷ 8 ∷ 9 ∷ 10 ∷ 11 ∷ 12 ∷ 13 ∷ 34 ∷ [])
 numbers-listed = refl
+
+-- the modes: each number's radio, and no number above 2 has one
+pub modes-listed : (radioOf 0 ≡ bpsk) × (radioOf 1 ≡ oqpsk) × (radioOf 2 ≡ lowband) × ((mode : ℕ) → known mode ≡ ltb mode 3)
+modes-listed = (refl, refl, refl, λ mode. refl)
 
 -- a word of n chips as a table prints it: the decimal digits of a numeral, c0 at the left
 abbrev pub printed : ℕ → ℕ → List ℕ

@@ -20,7 +20,7 @@ use Rattle.codes.proofs.Gathering.{listed-long, listed-at}
 use Rattle.codes.proofs.Laid.{laid, laid-lt, laid-cong, Chips}
 use Rattle.codes.proofs.Judging.{chip-in, chips-in}
 use Rattle.codes.proofs.Leasts.{key-near}
-use Rattle.codes.proofs.Words.{Columned, part, evenAt, oddAt, columned-oqpsk, columned-lowband, apart-is, apart-le, parted-few}
+use Rattle.codes.proofs.Words.{Columned, part, evenAt, oddAt, oqpskEven, oqpskOdd, lowbandEven, lowbandOdd, columned-oqpsk, columned-lowband, apart-is, apart-le, parted-few}
 use Rattle.codes.proofs.Facts.{sound-oqpsk, sound-lowband}
 
 -- the least key of a radio whose words have columns tells the nearest word, where the numbers are
@@ -159,15 +159,15 @@ module _ (bits : ℕ) (fits : bits < 2 ^ 64) where
         together = omega arith
 
     -- the nearest word
-    pub four-nearest : (e o : ℕ) → e ≡ firstThird t → o ≡ firstThird (t / 256) → (p q : ℕ) → p ≡ 0xE887 → q ≡ 0x1B95 → (m : ℕ)
+    pub four-nearest : (e o : ℕ) → e ≡ firstThird t → o ≡ firstThird (t / 256) → (p q : ℕ) → p ≡ oqpskEven → q ≡ oqpskOdd → (m : ℕ)
         → m ≡ least 0xFFFF (keyOf (apartAt 16 (parted e p) (parted o q))) 16 → nearOf m ≡ nearestIn 1 bits
     unfolding nearestIn
     four-nearest =
-        columns-nearest oqpsk sound-oqpsk 16 (omega arith) (evenAt 4) (oddAt 4) 0xE887 0x1B95 columned-oqpsk bits t evens-laid odds-laid
+        columns-nearest oqpsk sound-oqpsk 16 (omega arith) (evenAt 4) (oddAt 4) oqpskEven oqpskOdd columned-oqpsk bits t evens-laid odds-laid
         (λ m l. omega arith) (λ m l. omega arith)
 
 -- mode 2
-one-column : every (λ v. ltb (turnedPair 0xC6 v) 256) 8 ≡ true
+one-column : every (λ v. ltb (turnedPair lowbandOdd v) 256) 8 ≡ true
 unfolding every turnedPair turnedBits
 one-column = refl
 
@@ -235,16 +235,16 @@ module _ (bits : ℕ) (fits : bits < 2 ^ 64) where
         together = omega arith
 
     -- a column has eight chips
-    pub two-half : (o q : ℕ) → o ≡ firstThird (t / 256) → q ≡ 0xC6 → (v : ℕ) → v < 8 → parted o q v ≤ 8
+    pub two-half : (o q : ℕ) → o ≡ firstThird (t / 256) → q ≡ lowbandOdd → (v : ℕ) → v < 8 → parted o q v ≤ 8
     two-half o q eo eq v h =
         rw eq
-        (parted-few 8 o 0xC6 v (rw (eo ∙ odds₂-laid) (laid-lt (λ m. chip₂ (oddAt 2 m)) (λ m. chips₂ (oddAt 2 m)) 8))
-        (ltb-true _ _ (each (λ v. ltb (turnedPair 0xC6 v) 256) 8 one-column v h)))
+        (parted-few 8 o lowbandOdd v (rw (eo ∙ odds₂-laid) (laid-lt (λ m. chip₂ (oddAt 2 m)) (λ m. chips₂ (oddAt 2 m)) 8))
+        (ltb-true _ _ (each (λ v. ltb (turnedPair lowbandOdd v) 256) 8 one-column v h)))
 
     -- the nearest word
-    pub two-nearest : (e o : ℕ) → e ≡ firstThird t → o ≡ firstThird (t / 256) → (p q : ℕ) → p ≡ 0x2E → q ≡ 0xC6 → (m : ℕ)
+    pub two-nearest : (e o : ℕ) → e ≡ firstThird t → o ≡ firstThird (t / 256) → (p q : ℕ) → p ≡ lowbandEven → q ≡ lowbandOdd → (m : ℕ)
         → m ≡ least 0xFFFF (keyOf (apartAt 8 (parted e p) (parted o q))) 16 → nearOf m ≡ nearestIn 2 bits
     unfolding nearestIn
     two-nearest =
-        columns-nearest lowband sound-lowband 8 (omega arith) (evenAt 2) (oddAt 2) 0x2E 0xC6 columned-lowband bits t evens₂-laid odds₂-laid
+        columns-nearest lowband sound-lowband 8 (omega arith) (evenAt 2) (oddAt 2) lowbandEven lowbandOdd columned-lowband bits t evens₂-laid odds₂-laid
         (λ m l. omega arith) (λ m l. omega arith)

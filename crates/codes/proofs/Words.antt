@@ -150,14 +150,27 @@ two-halved : Halved 2 8
 unfolding apart
 two-halved f g = omega arith
 
--- mode 1's words have four columns, mode 2's two
-pub columned-oqpsk : Columned oqpsk 16 (evenAt 4) (oddAt 4) (turnedPair 0xE887) (turnedPair 0x1B95)
-unfolding wordTest chipTest every laid turnedPair turnedBits oqpskWords turnedWords turns turned oddInverted oqpskWord
-columned-oqpsk = columned-by oqpsk 16 (evenAt 4) (oddAt 4) (turnedPair 0xE887) (turnedPair 0x1B95) refl four-halved refl
+-- word 0's columns, of its even chips and of its odd
+abbrev pub oqpskEven : ℕ
+oqpskEven = 0xE887
 
-pub columned-lowband : Columned lowband 8 (evenAt 2) (oddAt 2) (turnedPair 0x2E) (turnedPair 0xC6)
+abbrev pub oqpskOdd : ℕ
+oqpskOdd = 0x1B95
+
+abbrev pub lowbandEven : ℕ
+lowbandEven = 0x2E
+
+abbrev pub lowbandOdd : ℕ
+lowbandOdd = 0xC6
+
+-- mode 1's words have four columns, mode 2's two
+pub columned-oqpsk : Columned oqpsk 16 (evenAt 4) (oddAt 4) (turnedPair oqpskEven) (turnedPair oqpskOdd)
+unfolding wordTest chipTest every laid turnedPair turnedBits oqpskWords turnedWords turns turned oddInverted oqpskWord
+columned-oqpsk = columned-by oqpsk 16 (evenAt 4) (oddAt 4) (turnedPair oqpskEven) (turnedPair oqpskOdd) refl four-halved refl
+
+pub columned-lowband : Columned lowband 8 (evenAt 2) (oddAt 2) (turnedPair lowbandEven) (turnedPair lowbandOdd)
 unfolding wordTest chipTest every laid turnedPair turnedBits lowbandWords turnedWords turns turned oddInverted lowbandWord
-columned-lowband = columned-by lowband 8 (evenAt 2) (oddAt 2) (turnedPair 0x2E) (turnedPair 0xC6) refl two-halved refl
+columned-lowband = columned-by lowband 8 (evenAt 2) (oddAt 2) (turnedPair lowbandEven) (turnedPair lowbandOdd) refl two-halved refl
 
 -- at the numbers that `keys` holds in a turn
 pub parted-is : (x w pair i n : ℕ) → i < 8 → w ≡ turnedPair pair (i % 8) → n ≡ ones (bitXor x w) → n ≡ parted x pair i

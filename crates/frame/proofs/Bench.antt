@@ -2,14 +2,14 @@
 -- beside it those of its lines that mode 2 has. Assumes nothing.
 use mathlib.Core.Path.{_≡_, refl}
 use mathlib.Core.List.{List, [], _∷_}
-use Prim.Native.Nat.{ℕ, zero, suc, _-_, _≤_}
+use Prim.Native.Nat.{ℕ, zero, suc, _-_, _≤_, _<_}
 use native.Mathlib.Omega.{arith}
 use lib.ListN.{length, take, drop, replicate}
 use Rattle.codes.specs.Numbers.{LOST}
 use Rattle.codes.specs.Chips.{distance, bad}
 use Rattle.codes.specs.Radio.{Radio, word, bpsk, oqpsk, lowband, bpskWords, oqpskWord, oqpskWords, lowbandWord, lowbandWords, turnedWords, turns, turned, oddInverted}
 use Rattle.codes.specs.Symbol.{refused, reads, within, first, valued, symbolOf}
-use Rattle.codes.proofs.Facts.{FlatApart, oqpsk-flat, lowband-flat}
+use Rattle.codes.proofs.Facts.{oqpsk-flat, lowband-flat}
 use Rattle.frame.specs.Frame.{digits, raws, encode, symbols, frame}
 use Rattle.frame.proofs.Count.{bpsk-chips, oqpsk-chips, lowband-chips}
 
@@ -19,10 +19,6 @@ inverted zero w = w
 inverted (suc k) [] = []
 inverted (suc k) (x ∷ w) = (1 - x) ∷ inverted k w
 
--- a symbol of flat chips, all 0 or all 1, is d from every word: 6
-abbrev pub Flat : Radio → ℕ → Type 0
-Flat r d = FlatApart r d × ((c : ℕ) → c ≤ 1 → symbolOf r (replicate (r .size) c) ≡ refused LOST)
-
 pub record BenchSheet : Type 0 where
   -- mode 1 words 0 and 9 differ in 12 chips
   pub A : distance (word oqpsk 0) (word oqpsk 9) ≡ 12
@@ -31,7 +27,7 @@ pub record BenchSheet : Type 0 where
   -- 0 and 8 in 16
   pub C : distance (word oqpsk 0) (word oqpsk 8) ≡ 16
   -- 32 flat chips, all 0 or all 1, are 16 from every mode 1 word: 6
-  pub D : Flat oqpsk 16
+  pub D : (c : ℕ) → c ≤ 1 → ((v : ℕ) → v < 16 → distance (replicate 32 c) (word oqpsk v) ≡ 16) × (symbolOf oqpsk (replicate 32 c) ≡ refused LOST)
   -- 15 zeros are 7 from the word for 1 and 8 from the word for 0: 6
   pub E : (distance (replicate 15 0) (word bpsk 1) ≡ 7) × (distance (replicate 15 0) (word bpsk 0) ≡ 8) × (symbolOf bpsk (replicate 15 0) ≡ refused LOST)
   -- 15 ones are 7 from the word for 0: 6
@@ -60,7 +56,7 @@ pub record LowbandSheet : Type 0 where
   -- 0 and 8 in 8
   pub C : distance (word lowband 0) (word lowband 8) ≡ 8
   -- 16 flat chips, all 0 or all 1, are 8 from every word: 6
-  pub D : Flat lowband 8
+  pub D : (c : ℕ) → c ≤ 1 → ((v : ℕ) → v < 16 → distance (replicate 16 c) (word lowband v) ≡ 8) × (symbolOf lowband (replicate 16 c) ≡ refused LOST)
   -- word 0 with its first two chips inverted reads as 0 at distance 2
   pub G : symbolOf lowband (inverted 2 (word lowband 0)) ≡ reads 0 2
   -- with its first three inverted: 6
@@ -83,7 +79,7 @@ bench =
       A = refl;
       B = refl;
       C = refl;
-      D = (oqpsk-flat, lost-flat oqpsk refl refl);
+      D = λ c h. (oqpsk-flat c h, lost-flat oqpsk refl refl c h);
       E = (refl, refl, refl);
       F = (refl, refl);
       G = refl;
@@ -101,7 +97,7 @@ lowband-bench =
       A = refl;
       B = refl;
       C = refl;
-      D = (lowband-flat, lost-flat lowband refl refl);
+      D = λ c h. (lowband-flat c h, lost-flat lowband refl refl c h);
       G = refl;
       H = refl;
       K = λ report. refl;

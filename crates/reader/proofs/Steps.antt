@@ -101,6 +101,7 @@ module _ (mode : ℕ) (h : Hand) (x : Symbol) where
   abbrev numberIn : ℕ
   numberIn = rules (perOctet (radioOf mode)) 127 (h .taken) rawIn octetIn lengthIn
 
+-- so a hand that a symbol stops stays as it was, but for the number
 pub followed-stops : (mode : ℕ) (h : Hand) (x : Symbol) → (followed mode h x .number ≡ MORE → ⊥)
     → (followed mode h x .number ≡ DONE → ⊥) → followed mode h x ≡ stopped (followed mode h x .number) h
 unfolding followed advanced
@@ -111,7 +112,7 @@ followed-stops mode h x =
     (λ e. rw e (λ m d. refl))))
     (λ k. rw k (λ m d. refl))
 
--- and so do the octets
+-- and the octets stay as they were
 pub kept-stops : (mode : ℕ) (h : Hand) (octets : List ℕ) → (h .number ≡ MORE → ⊥) → (h .number ≡ DONE → ⊥) → keptAt mode h octets ≡ octets
 unfolding keptAt
 kept-stops mode h octets m d = by-test (known mode) (λ k. rw k (stops (h .number) _ octets m d)) (λ k. rw k)

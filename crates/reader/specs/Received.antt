@@ -1,4 +1,4 @@
--- The values of the symbols read, taken back to raw symbols and octets (document 01, "The two
+-- The values of the symbols read, taken back to raw symbols and octets (the scope, "The three
 -- radios"), for any radio.
 use Prim.Native.Nat.{ℕ, zero, suc, _+_, _*_, _%_, _^_}
 use mathlib.Core.List.{List, [], _∷_}

@@ -4,7 +4,7 @@ use Prim.Native.Nat.{ℕ, _/_}
 use native.Mathlib.Omega.{arith}
 use lib.ListN.{getD}
 use Rattle.codes.specs.Columns.{firstThird, fourColumns}
-use Rattle.codes.proofs.Words.{parted-le, apart-le}
+use Rattle.codes.proofs.Words.{oqpskEven, oqpskOdd, parted-le, apart-le}
 use Rattle.codes.proofs.Leasts.{key-pos, least-cong}
 use Rattle.codes.proofs.Turned.{four-nearest}
 use borrow.Author.Needs.{needs}
@@ -30,11 +30,11 @@ first-third-requires-4 : tie.Need-first-third-requires-4
 first-third-requires-4 c κs = search needs
 
 -- the columns of word 0
-odd-of : (w q : ℕ) → w ≡ fourColumns 0x0554404111401505 → q ≡ firstThird (w / 256) → q ≡ 0x1B95
+odd-of : (w q : ℕ) → w ≡ fourColumns 0x0554404111401505 → q ≡ firstThird (w / 256) → q ≡ oqpskOdd
 unfolding fourColumns
 odd-of w q ew eq = eq ∙ ap (λ (w : ℕ). firstThird (w / 256)) ew
 
-even-of : (w p : ℕ) → w ≡ fourColumns 0x0554404111401505 → p ≡ firstThird w → p ≡ 0xE887
+even-of : (w p : ℕ) → w ≡ fourColumns 0x0554404111401505 → p ≡ firstThird w → p ≡ oqpskEven
 unfolding fourColumns
 even-of w p ew ep = ep ∙ ap (λ (w : ℕ). firstThird w) ew
 

@@ -4,7 +4,7 @@ use Prim.Native.Nat.{ℕ, _/_}
 use native.Mathlib.Omega.{arith}
 use lib.ListN.{getD}
 use Rattle.codes.specs.Columns.{firstThird, twoColumns}
-use Rattle.codes.proofs.Words.{apart-le}
+use Rattle.codes.proofs.Words.{lowbandEven, lowbandOdd, apart-le}
 use Rattle.codes.proofs.Leasts.{key-pos, least-cong}
 use Rattle.codes.proofs.Turned.{two-half, two-nearest}
 use borrow.Author.Needs.{needs}
@@ -30,11 +30,11 @@ first-third-requires-4 : tie.Need-first-third-requires-4
 first-third-requires-4 c κs = search needs
 
 -- the columns of word 0
-odd-of : (w q : ℕ) → w ≡ twoColumns 0x1001110101110000 → q ≡ firstThird (w / 256) → q ≡ 0xC6
+odd-of : (w q : ℕ) → w ≡ twoColumns 0x1001110101110000 → q ≡ firstThird (w / 256) → q ≡ lowbandOdd
 unfolding twoColumns
 odd-of w q ew eq = eq ∙ ap (λ (w : ℕ). firstThird (w / 256)) ew
 
-even-of : (w p : ℕ) → w ≡ twoColumns 0x1001110101110000 → p ≡ firstThird w → p ≡ 0x2E
+even-of : (w p : ℕ) → w ≡ twoColumns 0x1001110101110000 → p ≡ firstThird w → p ≡ lowbandEven
 unfolding twoColumns
 even-of w p ew ep = ep ∙ ap (λ (w : ℕ). firstThird w) ew
 
