@@ -9,7 +9,8 @@ use lib.ListN.{length, replicate}
 use lib.Dec.{eqb, ltb}
 use borrow.Author.Tests.{eqb-true, eqb-false, ltb-true, ne-eqb, not-true}
 use Rattle.codes.specs.Chips.{pick, among, distance, bad}
-use Rattle.codes.specs.Radio.{Radio, word, Sound, Unflat, radioOf, bpsk, oqpsk, lowband, bpskWords, oqpskWord, oqpskWords, lowbandWord, lowbandWords, turned, turns, oddInverted, turnedWords}
+use Rattle.codes.specs.Radio.{Radio, word, Sound, Unflat, radioOf, bpsk, oqpsk, lowband}
+use Rattle.codes.specs.Radio.{bpskWords, oqpskWord, oqpskWords, lowbandWord, lowbandWords, turned, turns, oddInverted, turnedWords}
 use Rattle.codes.proofs.Tests.{by-test, not-both, every, each}
 use Rattle.codes.proofs.Modes.{each-row}
 

@@ -238,7 +238,8 @@ unfolding heaped
 told-four step f e j h i g = go e h (g 0 j (omega arith) i) (g 1 j (omega arith) i) (g 2 j (omega arith) i) (g 3 j (omega arith) i)
   where
     go : (e : ℕ) → e < 4 → f (0 * step + j) ≤ 1 → f (1 * step + j) ≤ 1 → f (2 * step + j) ≤ 1 → f (3 * step + j) ≤ 1
-        → (0 + f (0 * step + j) * 2 ^ (0 * 2) + f (1 * step + j) * 2 ^ (1 * 2) + f (2 * step + j) * 2 ^ (2 * 2) + f (3 * step + j) * 2 ^ (3 * 2)) / 2 ^ (e * 2) % 2
+        → (0 + f (0 * step + j) * 2 ^ (0 * 2) + f (1 * step + j) * 2 ^ (1 * 2) + f (2 * step + j) * 2 ^ (2 * 2) + f (3 * step + j) * 2 ^ (3 * 2))
+        / 2 ^ (e * 2) % 2
         ≡ f (e * step + j)
     go zero h a b c d = omega arith
     go (suc zero) h a b c d = omega arith

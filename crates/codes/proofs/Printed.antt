@@ -9,7 +9,8 @@ use lib.ListN.{take, drop}
 use lib.Dec.{ltb}
 use Rattle.codes.specs.Numbers.{DONE, BADMODE, TOOLONG, NOROOM, RUNOUT, NOCHIP, LOST, PREAMBLE, BADSTART, RESERVED}
 use Rattle.codes.specs.Numbers.{ENDED, BADPART, NOTENDED, MORE, FORGED}
-use Rattle.codes.specs.Radio.{known, radioOf, bpsk, oqpsk, lowband, bpskWords, oqpskWord, oqpskWords, lowbandWord, lowbandWords, turned, turns, oddInverted, turnedWords}
+use Rattle.codes.specs.Radio.{known, radioOf, bpsk, oqpsk, lowband}
+use Rattle.codes.specs.Radio.{bpskWords, oqpskWord, oqpskWords, lowbandWord, lowbandWords, turned, turns, oddInverted, turnedWords}
 
 -- the numbers given back, in the order of document 01's table
 pub numbers-listed :

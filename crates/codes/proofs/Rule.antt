@@ -9,7 +9,8 @@ use lib.ListN.{length, getD}
 use lib.Dec.{eqb, ltb}
 use borrow.Author.Tests.{eqb-true}
 use Rattle.codes.specs.Chips.{pick}
-use Rattle.codes.specs.Radio.{Radio, radioOf, known, oqpsk, lowband, word, oqpskWord, oqpskWords, lowbandWord, lowbandWords, turned, turns, oddInverted, turnedWords}
+use Rattle.codes.specs.Radio.{Radio, radioOf, known, oqpsk, lowband, word}
+use Rattle.codes.specs.Radio.{oqpskWord, oqpskWords, lowbandWord, lowbandWords, turned, turns, oddInverted, turnedWords}
 use Rattle.codes.specs.Strip.{stripAt, rowAt}
 use Rattle.codes.proofs.Tests.{every, each}
 use Rattle.codes.proofs.Chips.{window-chip}

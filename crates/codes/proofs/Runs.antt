@@ -53,11 +53,14 @@ Runs : Radio → Phy → Type 0
 Runs r p = every (runTest r p (listed (stripChip p) 128)) (length (r .words)) ≡ true
 
 runs : (mode : ℕ) → Runs (radioOf mode) (phyOf (radioOf mode))
-unfolding Runs runTest same every listed chipOf gathered gatheredAll packed bad bpskWords oqpskWord oqpskWords lowbandWord lowbandWords turnedWords turns turned oddInverted
+unfolding
+    Runs runTest same every listed chipOf gathered gatheredAll packed bad
+    bpskWords oqpskWord oqpskWords lowbandWord lowbandWords turnedWords turns turned oddInverted
 runs = each-row (λ r. Runs r (phyOf r)) refl refl refl
 
 module _ (mode : ℕ) (m : known mode ≡ true) (v : ℕ) (h : v < length (radioOf mode .words)) where
-  run-at : (leb (rowAt mode v + radioOf mode .size) 128 ≡ true) × (same (take (radioOf mode .size) (drop (rowAt mode v) (stripAt mode))) (word (radioOf mode) v) ≡ true)
+  run-at : (leb (rowAt mode v + radioOf mode .size) 128 ≡ true)
+      × (same (take (radioOf mode .size) (drop (rowAt mode v) (stripAt mode))) (word (radioOf mode) v) ≡ true)
   unfolding Runs runTest rowAt stripAt
   run-at = rw (phy-known mode m) (both-true _ _ (each _ (length (radioOf mode .words)) (runs mode) v h))
 

@@ -20,7 +20,8 @@ use Rattle.codes.proofs.Gathering.{listed-long, listed-at}
 use Rattle.codes.proofs.Laid.{laid, laid-lt, laid-cong, Chips}
 use Rattle.codes.proofs.Judging.{chip-in, chips-in}
 use Rattle.codes.proofs.Leasts.{key-near}
-use Rattle.codes.proofs.Words.{Columned, part, evenAt, oddAt, oqpskEven, oqpskOdd, lowbandEven, lowbandOdd, columned-oqpsk, columned-lowband, apart-is, apart-le, parted-few}
+use Rattle.codes.proofs.Words.{Columned, part, evenAt, oddAt, oqpskEven, oqpskOdd, lowbandEven, lowbandOdd}
+use Rattle.codes.proofs.Words.{columned-oqpsk, columned-lowband, apart-is, apart-le, parted-few}
 use Rattle.codes.proofs.Facts.{sound-oqpsk, sound-lowband}
 
 -- the least key of a radio whose words have columns tells the nearest word, where the numbers are

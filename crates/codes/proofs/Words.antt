@@ -13,7 +13,8 @@ use lib.ListN.{length, getD}
 use lib.Dec.{eqb, ltb}
 use borrow.Author.Tests.{eqb-true, ltb-true, ltb-false}
 use Rattle.codes.specs.Chips.{pick, distance, bad}
-use Rattle.codes.specs.Radio.{Radio, Sound, word, oqpsk, lowband, oqpskWord, oqpskWords, lowbandWord, lowbandWords, turnedWords, turns, turned, oddInverted}
+use Rattle.codes.specs.Radio.{Radio, Sound, word, oqpsk, lowband}
+use Rattle.codes.specs.Radio.{oqpskWord, oqpskWords, lowbandWord, lowbandWords, turnedWords, turns, turned, oddInverted}
 use Rattle.codes.specs.Columns.{turnedBits, turnedPair, parted, apartAt, lowKey, highKey, Keyed}
 use Rattle.codes.proofs.Tests.{by-test, both-true, every, each}
 use Rattle.codes.proofs.Chips.{chip-at}

@@ -7,7 +7,8 @@ use native.Mathlib.Omega.{arith}
 use lib.ListN.{length, take, drop, replicate}
 use Rattle.codes.specs.Numbers.{LOST}
 use Rattle.codes.specs.Chips.{distance, bad}
-use Rattle.codes.specs.Radio.{Radio, word, bpsk, oqpsk, lowband, bpskWords, oqpskWord, oqpskWords, lowbandWord, lowbandWords, turnedWords, turns, turned, oddInverted}
+use Rattle.codes.specs.Radio.{Radio, word, bpsk, oqpsk, lowband}
+use Rattle.codes.specs.Radio.{bpskWords, oqpskWord, oqpskWords, lowbandWord, lowbandWords, turnedWords, turns, turned, oddInverted}
 use Rattle.codes.specs.Symbol.{refused, reads, within, first, valued, symbolOf}
 use Rattle.codes.proofs.Facts.{oqpsk-flat, lowband-flat}
 use Rattle.frame.specs.Frame.{digits, raws, encode, symbols, frame}

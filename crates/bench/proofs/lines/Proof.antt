@@ -33,8 +33,10 @@ returns c =
     let first = second .before .before .before .before in
     let s = first .before .before .before .before in
     let chips = s .args .chips .now in
-    let fits : third .line3 .result ≤ length (third .line3 .last .1 .1 .0) = omega (arith, s .pre) in
-    (counts _ _ fits, three (lineOf 0 chips) (lineOf 1 chips) (lineOf 2 chips) _ _ _ (first .line .ensures .1) (second .line2 .ensures .1) (third .line3 .ensures .1))
+    let fits : third .line3 .result ≤ length (third .line3 .last .1 .1 .0) = omega (arith, s .pre) in (
+      counts _ _ fits,
+      three (lineOf 0 chips) (lineOf 1 chips) (lineOf 2 chips) _ _ _ (first .line .ensures .1) (second .line2 .ensures .1) (third .line3 .ensures .1),
+    )
 
 pub lines-spec : {M : Type 1} → statement M
 lines-spec = tie.close (tie.spec line-requires line-requires-2 line-requires-3 same-length returns)

@@ -37,7 +37,8 @@ sent-symbol-requires c κs =
     let l = c .before in
     let s = l .before .before .before in
     let f = few-values (s .args .mode) in
-    let b : 2 ^ radioOf (s .args .mode) .bits ≡ l .before .phy-of .result .values = sym (row-values (s .args .mode) (s .pre .0) _ (l .before .phy-of .ensures)) in
+    let z = l .before .phy-of in
+    let b : 2 ^ radioOf (s .args .mode) .bits ≡ z .result .values = sym (row-values (s .args .mode) (s .pre .0) _ (z .ensures)) in
     (omega (arith, l .loop .inv .value), omega (arith, mod-lt (l .loop .rest) (rw b at (pow-pos (radioOf (s .args .mode) .bits)))))
 
 put-symbol-requires : tie.Need-put-symbol-requires Inv-loop μ-loop
@@ -63,7 +64,8 @@ add-p : tie.Need-add-p Inv-loop μ-loop
 add-p c =
     let l = c .before .before .before .before .before .before in
     let s = l .before .before .before in
-    let h : l .loop .i < perOctet (radioOf (s .args .mode)) = rw (← (row-per (s .args .mode) (s .pre .0) _ (l .before .phy-of .ensures))) (c .before .before .before .before .before .loop-test .taken) in
+    let e = row-per (s .args .mode) (s .pre .0) _ (l .before .phy-of .ensures) in
+    let h : l .loop .i < perOctet (radioOf (s .args .mode)) = rw (← e) (c .before .before .before .before .before .loop-test .taken) in
     omega (
       arith,
       octet-room (radioOf (s .args .mode)) _ _ _ _ _ _ _ _ _ (l .loop .inv) (s .pre .3) h,
@@ -76,7 +78,12 @@ add-i : tie.Need-add-i Inv-loop μ-loop
 add-i c =
     let l = c .before .before .before .before .before .before in
     let s = l .before .before .before in
-    omega (arith, few-symbols (s .args .mode), row-per (s .args .mode) (s .pre .0) _ (l .before .phy-of .ensures), c .before .before .before .before .before .loop-test .taken)
+    omega (
+      arith,
+      few-symbols (s .args .mode),
+      row-per (s .args .mode) (s .pre .0) _ (l .before .phy-of .ensures),
+      c .before .before .before .before .before .loop-test .taken,
+    )
 
 loop-less : tie.Need-loop-less Inv-loop μ-loop
 loop-less c = omega (arith, c .before .before .before .before .before .loop-test .taken)
@@ -86,7 +93,8 @@ loop-again c =
     let l = c .before .before .before .before .before .before in
     let s = l .before .before .before in
     let r = radioOf (s .args .mode) in
-    let h : l .loop .i < perOctet r = rw (← (row-per (s .args .mode) (s .pre .0) _ (l .before .phy-of .ensures))) (c .before .before .before .before .before .loop-test .taken) in
+    let p = row-per (s .args .mode) (s .pre .0) _ (l .before .phy-of .ensures) in
+    let h : l .loop .i < perOctet r = rw (← p) (c .before .before .before .before .before .loop-test .taken) in
     let e = row-sent (s .args .mode) (s .pre .0) _ (l .before .phy-of .ensures) _ _ _ (c .before .before .before .before .sent-symbol .ensures) in
     octet-turns r _ _ _ _ _ _ _ _ _ (l .loop .inv) (s .pre .3) h (sound (s .args .mode)) _ _ e
     (ap (λ (b : ℕ). l .loop .rest / b) (row-values (s .args .mode) (s .pre .0) _ (l .before .phy-of .ensures))) _ _
@@ -100,7 +108,8 @@ returns : tie.Need-returns Inv-loop μ-loop
 returns c =
     let l = c .before in
     let s = l .before .before .before in
-    octet-ends (radioOf (s .args .mode)) _ _ _ _ _ _ _ _ _ (l .loop .inv) (rw (row-per (s .args .mode) (s .pre .0) _ (l .before .phy-of .ensures)) at (c .loop-test .left))
+    let e = row-per (s .args .mode) (s .pre .0) _ (l .before .phy-of .ensures) in
+    octet-ends (radioOf (s .args .mode)) _ _ _ _ _ _ _ _ _ (l .loop .inv) (rw e at (c .loop-test .left))
 
 pub put-octet-spec : {M : Type 1} → statement M
 put-octet-spec =

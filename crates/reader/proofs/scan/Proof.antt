@@ -114,10 +114,12 @@ long-part c =
     _ (size-is c) (q .symbols .inv) (i .symbols-test .taken) _ refl
 
 -- its symbol is taken
-took : (c : Taken) → c .take-symbol .result ≡ followed (c .before .before .before .before .before .before .before .before .before .args .mode) (c .before .before .chips .hand)
-    (symbolOf (radioOf (c .before .before .before .before .before .before .before .before .before .args .mode)) (take
-    (c .before .before .before .before .before .symbols .at + c .before .before .before .before .before .before .before .phy-of .result .size - c .before .before .before .before .before .symbols .at)
-    (drop (c .before .before .before .before .before .symbols .at) (c .before .before .before .before .before .before .before .before .before .args .chips .now))))
+took : (c : Taken) →
+    let q = c .before .before .before .before .before in
+    let s = q .before .before .before .before in
+    c .take-symbol .result ≡ followed (s .args .mode) (c .before .before .chips .hand)
+    (symbolOf (radioOf (s .args .mode))
+    (take (q .symbols .at + q .before .before .phy-of .result .size - q .symbols .at) (drop (q .symbols .at) (s .args .chips .now))))
 took c =
     let k = c .before .before in
     let s = k .before .before .before .before .before .before .before in
@@ -125,9 +127,11 @@ took c =
     ∙ ap (followed (s .args .mode) (k .chips .hand))
     (loop-ends (s .args .mode) (s .pre .0) _ (long-part k) _ _ (c .before .chips-test .left) (k .chips .inv .1))
 
-turn : (c : Turn)
-    → Turning (radioOf (c .before .before .before .before .before .before .before .before .before .before .before .before .before .args .mode)) (c .before .before .before .before .before .before .before .before .before .before .before .before .before .args .room) (c .before .before .before .before .before .before .before .before .before .before .before .before .before .args .chips .now)
-    (c .settle .last .1 .1 .1 .1 .0) (c .settle .result) (c .before .before .before .before .before .before .before .before .before .symbols .at + c .before .before .before .before .before .before .before .before .before .before .before .phy-of .result .size)
+turn : (c : Turn) →
+    let q = c .before .before .before .before .before .before .before .before .before in
+    let s = q .before .before .before .before in
+    Turning (radioOf (s .args .mode)) (s .args .room) (s .args .chips .now) (c .settle .last .1 .1 .1 .1 .0) (c .settle .result)
+    (q .symbols .at + q .before .before .phy-of .result .size)
 turn c =
     let t = c .before .before .before .before in
     let k = t .before .before in
@@ -138,7 +142,9 @@ turn c =
     (size-is k) (rw (k .chips .inv .0) (q .symbols .inv)) (i .symbols-test .taken) _ refl _ (took t) _ (c .settle .ensures .0) _ (c .settle .ensures .1)
 
 -- the symbol lies in the buffer
-fits-left : (c : Turn) → c .before .before .before .before .before .before .before .before .before .symbols .at + c .before .before .before .before .before .before .before .before .before .before .before .phy-of .result .size ≤ length (c .before .before .before .before .before .before .before .before .before .before .before .before .before .args .chips .now)
+fits-left : (c : Turn) →
+    let q = c .before .before .before .before .before .before .before .before .before in
+    q .symbols .at + q .before .before .phy-of .result .size ≤ length (q .before .before .before .before .args .chips .now)
 fits-left c = let i = c .before .before .before .before .before .before .before .before in
     omega (arith, i .before .symbols .inv .upto, i .symbols-test .taken)
 
@@ -211,7 +217,8 @@ settle-requires c κs =
     )
 
 add-at : tie.Need-add-at Inv-chips μ-chips Inv-symbols μ-symbols
-add-at c = omega (arith, fits-left (c .before .before), c .before .before .before .before .before .before .before .before .before .before .before .before .before .before .before .good)
+add-at c = let q = c .before .before .before .before .before .before .before .before .before .before .before in
+    omega (arith, fits-left (c .before .before), q .before .before .before .before .good)
 
 symbols-less : tie.Need-symbols-less Inv-chips μ-chips Inv-symbols μ-symbols
 symbols-less c =

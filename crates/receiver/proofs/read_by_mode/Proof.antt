@@ -27,7 +27,8 @@ judge-requires : tie.Need-judge-requires
 judge-requires c κs = search needs
 
 returns-4 : tie.Need-returns-4
-returns-4 c = absurd (no-other _ (c .before .before .before .before .before .pre .0) (c .before .before .before .if1 .left) (c .before .before .if2 .left) (c .before .if3 .left))
+returns-4 c = let t = c .before in
+    absurd (no-other _ (t .before .before .before .before .pre .0) (t .before .before .if1 .left) (t .before .if2 .left) (t .if3 .left))
 
 pub read-by-mode-spec : {M : Type 1} → statement M
 read-by-mode-spec =

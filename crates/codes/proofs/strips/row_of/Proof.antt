@@ -16,28 +16,33 @@ unfolding rowAt
 returns c = let z = c .before .before in rw (← z .phy-of .ensures, le-leb _ _ (c .if1 .taken))
 
 mul-result : tie.Need-mul-result
-mul-result c = omega (arith, phy-few _ (c .before .before .before .before .phy-of .result) (c .before .before .before .before .phy-of .ensures) .0)
+mul-result c = let z = c .before .before .before .before .phy-of in omega (arith, phy-few _ (z .result) (z .ensures) .0)
 
 div-result : tie.Need-div-result
-div-result c = row-few _ (c .before .before .before .before .phy-of .result) (c .before .before .before .before .phy-of .ensures) _ (c .before .before .if1 .left) .some
+div-result c = let z = c .before .before .before .before .phy-of in row-few _ (z .result) (z .ensures) _ (c .before .before .if1 .left) .some
 
 mul-result-2 : tie.Need-mul-result-2
-mul-result-2 c = let r = row-few _ (c .before .before .before .before .phy-of .result) (c .before .before .before .before .phy-of .ensures) _ (c .before .before .if1 .left) in omega (arith, r .half)
+mul-result-2 c = let z = c .before .before .before .before .phy-of in
+    omega (arith, row-few _ (z .result) (z .ensures) _ (c .before .before .if1 .left) .half)
 
 mul-result-3 : tie.Need-mul-result-3
-mul-result-3 c = omega (arith, phy-few _ (c .before .before .before .before .before .phy-of .result) (c .before .before .before .before .before .phy-of .ensures) .0)
+mul-result-3 c = let z = c .before .before .before .before .before .phy-of in omega (arith, phy-few _ (z .result) (z .ensures) .0)
 
 add-result : tie.Need-add-result
-add-result c = let r = row-few _ (c .before .before .before .before .before .phy-of .result) (c .before .before .before .before .before .phy-of .ensures) _ (c .before .before .before .if1 .left) in omega (arith, phy-few _ (c .before .before .before .before .before .phy-of .result) (c .before .before .before .before .before .phy-of .ensures) .0, r .half)
+add-result c = let z = c .before .before .before .before .before .phy-of in
+    omega (arith, phy-few _ (z .result) (z .ensures) .0, row-few _ (z .result) (z .ensures) _ (c .before .before .before .if1 .left) .half)
 
 rem-result : tie.Need-rem-result
-rem-result c = row-few _ (c .before .before .before .before .before .phy-of .result) (c .before .before .before .before .before .phy-of .ensures) _ (c .before .before .before .if1 .left) .some
+rem-result c = let z = c .before .before .before .before .before .phy-of in
+    row-few _ (z .result) (z .ensures) _ (c .before .before .before .if1 .left) .some
 
 mul-result-4 : tie.Need-mul-result-4
-mul-result-4 c = let r = row-few _ (c .before .before .before .before .before .before .phy-of .result) (c .before .before .before .before .before .before .phy-of .ensures) _ (c .before .before .before .before .if1 .left) in omega (arith, phy-few _ (c .before .before .before .before .before .before .phy-of .result) (c .before .before .before .before .before .before .phy-of .ensures) .0, r .turn)
+mul-result-4 c = let z = c .before .before .before .before .before .before .phy-of in
+    omega (arith, phy-few _ (z .result) (z .ensures) .0, row-few _ (z .result) (z .ensures) _ (c .before .before .before .before .if1 .left) .turn)
 
 sub-result : tie.Need-sub-result
-sub-result c = let r = row-few _ (c .before .before .before .before .before .before .phy-of .result) (c .before .before .before .before .before .before .phy-of .ensures) _ (c .before .before .before .before .if1 .left) in omega (arith, r .turn)
+sub-result c = let z = c .before .before .before .before .before .before .phy-of in
+    omega (arith, row-few _ (z .result) (z .ensures) _ (c .before .before .before .before .if1 .left) .turn)
 
 returns-2 : tie.Need-returns-2
 unfolding rowAt

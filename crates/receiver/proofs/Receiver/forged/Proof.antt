@@ -35,13 +35,16 @@ going : (c : lts.Joined1 (phy-of-reads.Asked, phy-of-reads.Learnt) reads.Pre rea
 going c = ⊎-elim (λ w. inr (eqb-true _ DONE (not-false _ (w .2 .left)))) (λ w. inl (w .left)) (c .if1 .came)
 
 -- where the tests before it are passed, the last one decides
-tested : (c : lts.After-struct-known10 (phy-of-reads.Asked, phy-of-reads.Learnt) reads.Pre reads.Post)
-    → forged (c .before .before .before .before .before .before .before .before .before .before .before .before .before .before .args .self) ≡ number-of-symbols (c .before .before .before .before .before .before .before .before .before .before .before .before .before .before .args .self) (c .before .before .before .before .before .before .before .before .before .before .before .phy-of .result .per)
+tested : (c : lts.After-struct-known10 (phy-of-reads.Asked, phy-of-reads.Learnt) reads.Pre reads.Post) →
+    let p = c .before .before .before .before .before .before .before .before .before .before .before in
+    let s = p .before .before .before .args .self in
+    forged s ≡ number-of-symbols s (p .phy-of .result .per)
 tested c =
     let p = c .before .before .before .before .before .before .before .before .before .before .before in
     let s = p .before .before .before .args .self in
     let k = row-sized (s .mode) _ (p .phy-of .ensures) (c .before .before .before .before .before .before .before .before .before .if3 .left) in
-    last-test s (going (p .before)) (k .0) (c .before .before .before .before .before .before .before .if4 .left) _ (row-limit (s .mode) (k .0) _ (p .phy-of .ensures)) (c .before .before .before .if5 .left) _ (k .1)
+    last-test s (going (p .before)) (k .0) (c .before .before .before .before .before .before .before .if4 .left) _
+    (row-limit (s .mode) (k .0) _ (p .phy-of .ensures)) (c .before .before .before .if5 .left) _ (k .1)
 
 returns : tie.Need-returns
 returns c = let s = c .before .before .before .before .args .self in
@@ -82,7 +85,8 @@ returns-4 c =
     let p = c .before .before .before .before .before .before .before .before in
     let s = p .before .before .before .args .self in
     let k = row-sized (s .mode) _ (p .phy-of .ensures) (c .before .before .before .before .before .before .if3 .left) in
-    forged-count s (going (p .before)) (k .0) (c .before .before .before .before .if4 .left) _ (row-limit (s .mode) (k .0) _ (p .phy-of .ensures)) (c .if5 .taken)
+    forged-count s (going (p .before)) (k .0) (c .before .before .before .before .if4 .left) _
+    (row-limit (s .mode) (k .0) _ (p .phy-of .ensures)) (c .if5 .taken)
 
 cast-total : tie.Need-cast-total
 cast-total c = search needs
