@@ -1,6 +1,7 @@
 # make run        a report to a raw capture, the bench program on the captures, and the example
 #                 gateway; with CAPTURE=file the bench program on that capture and nothing else
-# make send       a report to a raw capture: MODE=0, 1 or 2, REPORT=file, OUT=file
+# make send       a report to a raw capture: MODE=0, 1 or 2, PROFILE=plain or checked,
+#                 REPORT=file, OUT=file
 # make check      programs, library and tests from outside: about two minutes, less where all is
 #                 proved already; SEED=.. and CASES=.. repeat a comparison
 # make test       the gate: make check, then every proof from nothing (`rt ci`)
@@ -23,9 +24,10 @@
 # two `rt` at once would share target/; a file half made is none
 .NOTPARALLEL:
 .DELETE_ON_ERROR:
-.PHONY: run send check test lib shared install install-shared uninstall speed clean help programs outside places always
+.PHONY: run send profile check test lib shared install install-shared uninstall speed clean help programs outside places always
 
 MODE = 1
+PROFILE = plain
 REPORT = example/report
 OUT = build/capture.raw
 CAPTURE =
@@ -38,7 +40,7 @@ CASES =
 override VERSION := $(shell tools/version)
 # Names go to the scripts by the environment, and as they were given: a blank, a quote or a dollar
 # is part of a name.
-NAMES = MODE REPORT OUT CAPTURE PREFIX libdir includedir DESTDIR SEED CASES
+NAMES = MODE PROFILE REPORT OUT CAPTURE PREFIX libdir includedir DESTDIR SEED CASES
 $(foreach name,$(NAMES),$(if $(filter command,$(firstword $(origin $(name)))),$(eval override $(name) := $$(value $(name)))))
 export $(NAMES)
 
@@ -51,11 +53,11 @@ SONAME = liblernazhup.so.$(firstword $(subst ., ,$(VERSION)))
 CRATES = send bench
 TOOLS = Makefile tools/cc tools/sanitizer-flags
 # what the archive is made of
-PROVED := $(shell find crates/codes crates/frame crates/reader crates/receiver crates/gateway -name '*.rt' -o -name '*.antt')
-COMPARED = compare compared_calls chip_cases record_cases lent_memory printed_facts reference
-TIMED = usual_read best_read copying_write
+PROVED := $(shell find crates/codes crates/frame crates/reader crates/receiver crates/fcs crates/checked crates/gateway -name '*.rt' -o -name '*.antt')
+COMPARED = compare compared_calls chip_cases octet_cases record_cases lent_memory printed_facts reference
+TIMED = usual_read best_read copying_write usual_fcs
 # programs of one file
-SINGLE = build/gateway build/struct_fields build/header_macros build/vectors build/stack
+SINGLE = build/gateway build/struct_fields build/header_macros build/vectors build/frame_check build/stack
 vpath %.c example tests measure comparison
 
 # some of the captures are there to be refused, which is status 1
@@ -69,8 +71,15 @@ run: programs
 	@programs/bench "$$CAPTURE"
 endif
 
-send: programs
-	@programs/send "$$MODE" "$$REPORT" "$$OUT"
+send: profile programs
+	@[ "$$PROFILE" = plain ] || set -- -c; programs/send "$$@" "$$MODE" "$$REPORT" "$$OUT"
+
+# another is told before anything is built
+profile:
+	@case $$PROFILE in \
+	plain | checked) ;; \
+	*) printf "PROFILE is plain or checked, and not '%s'\n" "$$PROFILE" >&2; exit 2 ;; \
+	esac
 
 check:
 	@tools/kit-warning
@@ -89,6 +98,7 @@ outside: $(SINGLE) build/compare build/speed $(SHARED)
 	@tests/shared-test
 	@tools/exec build/struct_fields
 	@tests/vectors-test
+	@tests/frame-check-test
 	@tests/send-test
 	@tests/bench-test
 	@tests/example-test

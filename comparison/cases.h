@@ -1,7 +1,7 @@
 /*
- * The makers of cases for the differential test: chip buffers, lengths, mode numbers, parts and
- * records, drawn at random but with a leaning towards the edges that document 01 draws. Each maker
- * notes in words what it did.
+ * The makers of cases for the differential test: reports, chip buffers, lengths, mode numbers,
+ * parts and records, drawn at random but with a leaning towards the edges that document 01 draws.
+ * Each maker notes in words what it did.
  */
 #ifndef CASES_H
 #define CASES_H
@@ -24,6 +24,17 @@ void notes_clear(void);
 void note(const char *words, long number);   /* words with one %ld at most */
 void notes_print(FILE *out);
 
+/* ---- Octets ---- */
+
+/* A report of n octets, often ended by its FCS or by a wrong one. */
+void make_report(uint8_t *octets, size_t n);
+
+/* Makes the last two of n octets the FCS of those before. */
+void put_fcs(uint8_t *octets, size_t n);
+
+/* How many octets to take the FCS of: now and then more than a report has. */
+size_t make_slice_length(void);
+
 /* ---- Chips ---- */
 
 enum { MADE_MAX = 68000 };
@@ -40,9 +51,10 @@ struct made {
 /* A buffer that begins like a frame, or not at all like one. `longest` bounds the report. */
 void make_chips(struct made *made, uint32_t longest);
 
-/* The frame of a report of n random octets, each symbol as far from its word as is accepted, the
- * last one `more` chips farther. */
-void make_edge_frame(struct made *made, uint32_t mode, uint32_t n, uint32_t more);
+/* The frame of a report, each symbol as far from its word as is accepted, the last one `more` chips
+ * farther. */
+void make_edge_frame(struct made *made, uint32_t mode, const uint8_t *report, uint32_t n,
+    uint32_t more);
 
 /* One symbol's chips somewhere on the way from one word to another: between the two, or just within
  * reach of one. */

@@ -81,20 +81,6 @@ static uint32_t pick_report_length(uint32_t longest)
     return n < longest ? n : longest;
 }
 
-static void fill_report(uint8_t *report, size_t n)
-{
-    switch (pick(5)) {
-    case 0:
-        memset(report, 0, n);
-        break;
-    case 1:
-        memset(report, 0xFF, n);
-        break;
-    default:
-        pick_bytes(report, n);
-    }
-}
-
 /* The frame before it was disturbed. */
 static uint8_t clean[LERNAZHUP_CHIPS_MAX];
 
@@ -108,7 +94,7 @@ static void make_frame(struct made *made, uint32_t longest)
     made->n = n;
     note("frame of %ld octets", n);
     octets[5] = (uint8_t)n;
-    fill_report(octets + 6, n);
+    make_report(octets + 6, n);
     if (chance(3)) {
         uint32_t bit = pick(32);
 
@@ -416,15 +402,14 @@ void make_chips(struct made *made, uint32_t longest)
         spoil(made);
 }
 
-void make_edge_frame(struct made *made, uint32_t mode, uint32_t n, uint32_t more)
+void make_edge_frame(struct made *made, uint32_t mode, const uint8_t *report, uint32_t n,
+    uint32_t more)
 {
     uint32_t last, s;
-    uint8_t report[127];
 
     notes_clear();
     note("frame of %ld octets, as many errors as accepted in each symbol", n);
     note("%ld more in the last", more);
-    pick_bytes(report, n);
     made->mode = mode;
     made->n = n;
     made->frame = made->length = reference_write(mode, report, n, made->chips, MADE_MAX).chips;

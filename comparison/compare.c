@@ -24,37 +24,52 @@
 static struct made made;
 static uint8_t wanted[LENT_MAX];   /* what a lent buffer must hold after the call */
 
-static void try_reading(void)
+static void try_reading(enum profile profile)
 {
     uint32_t mode;
 
     make_chips(&made, 127);
     mode = make_mode(made.mode);
-    check_read(mode, made.chips, made.length, make_room(made.n));
+    check_read(profile, mode, made.chips, made.length, make_room(made.n));
 }
 
-/* What is written reads back, whatever stands behind it: by the library alone, without the
- * reference. */
-static void try_reading_back(uint32_t mode, const uint8_t *report, size_t length, size_t room)
+/* What is written reads back, the checked report with its FCS, whatever stands behind it: by the
+ * library alone, without the reference. */
+static void try_reading_back(enum profile profile, uint32_t mode, const uint8_t *report,
+    size_t length, size_t room)
 {
+    const struct calls *library = &compared[profile];
     lernazhup_written written;
     lernazhup_reading want = { LERNAZHUP_DONE, 0, 0, 0 };
+    uint8_t octets[127 + 2], *in, *out;
+    uint32_t fcs = lernazhup_fcs(report, length);
     size_t shown;
-    uint8_t *in, *out;
 
+    memcpy(octets, report, length);
+    octets[length] = (uint8_t)fcs;
+    octets[length + 1] = (uint8_t)(fcs >> 8);
     memcpy(wanted, pick_junk(), room);
-    begin("lernazhup_write, then lernazhup_read", mode, report, length, room);
-    written = lernazhup_write(mode, report, length, wanted, room);
+    begin(profile == PLAIN ? "lernazhup_write, then lernazhup_read"
+        : "lernazhup_write_checked, then lernazhup_read_checked", mode, report, length, room);
+    written = library->write(mode, report, length, wanted, room);
     want.place = written.chips / reference_chips(mode);
-    want.n = (uint32_t)length;
+    want.n = (uint32_t)length + (profile == CHECKED ? 2 : 0);
     shown = chance(50) ? written.chips : room;
     in = lend_somewhere(LENT_IN, wanted, shown);
-    out = lend_somewhere(LENT_OUT, pick_junk(), length);
-    check_reading(lernazhup_read(mode, in, shown, out, length), want);
-    check_lent(LENT_OUT, "report", report);
+    out = lend_somewhere(LENT_OUT, pick_junk(), want.n);
+    check_reading(library->read(mode, in, shown, out, want.n), want);
+    check_lent(LENT_OUT, "report", octets);
 }
 
-static void try_writing(void)
+/* The chips of the frame that a writer makes of a report. */
+static size_t frame_of(enum profile profile, uint32_t mode, size_t length)
+{
+    size_t n = length + (profile == CHECKED ? 2 : 0);
+
+    return reference_chips(mode) * reference_per_octet(mode) * (6 + n);
+}
+
+static void try_writing(enum profile profile)
 {
     static uint8_t report[LENT_MAX];
     uint32_t mode = pick(MODES), kind = pick(100);
@@ -63,15 +78,26 @@ static void try_writing(void)
     notes_clear();
     if (pick(2000) == 0)
         length = 65536 + pick(128);
-    if (chance(20))
-        memset(report, chance(50) ? 0 : 0xFF, length);
+    if (chance(50))
+        make_report(report, length);
     else
         memcpy(report, pick_junk(), length);
-    needed = reference_chips(mode) * reference_per_octet(mode) * (6 + (length < 128 ? length : 128));
+    needed = frame_of(profile, mode, length < 128 ? length : 128);
     room = chance(40) ? needed + pick(3) : make_room(needed);
     mode = make_mode(mode);
-    if (check_write(mode, report, length, room).number == LERNAZHUP_DONE && chance(25))
-        try_reading_back(mode, report, length, room);
+    if (check_write(profile, mode, report, length, room).number == LERNAZHUP_DONE && chance(25))
+        try_reading_back(profile, mode, report, length, room);
+}
+
+static void try_slice(void)
+{
+    static uint8_t octets[LENT_MAX];
+    size_t length = make_slice_length();
+
+    notes_clear();
+    make_report(octets, length);
+    check_fcs(octets, length);
+    check_check(octets, length);
 }
 
 /* Calls that must change nothing: answered 10, 11 or 12. Gives the record that the last of them
@@ -92,12 +118,12 @@ static lernazhup_receiver idle_calls(lernazhup_receiver record)
     return check_push(record, part, make_part(record.mode, part)).receiver;
 }
 
-/* For a buffer cut into whole symbols, take into 127 bytes gives what the reader gives: by the
- * library alone. */
+/* For a buffer cut into whole symbols, take into 127 bytes gives what the reader gives, and the
+ * check of its report the number that the checked reader gives: by the library alone. */
 static void check_take_is_read(lernazhup_receiver record)
 {
     uint8_t report[127];
-    lernazhup_reading want;
+    lernazhup_reading want, checked;
 
     memset(wanted, 0x5A, sizeof report);
     memset(report, 0x5A, sizeof report);
@@ -106,6 +132,9 @@ static void check_take_is_read(lernazhup_receiver record)
     check_reading(lernazhup_take(record, wanted, sizeof report), want);
     if (memcmp(wanted, report, sizeof report) != 0)
         mismatch("take's report isn't the reader's");
+    checked = lernazhup_read_checked(record.mode, made.chips, made.length, report, sizeof report);
+    if (want.number == LERNAZHUP_DONE && lernazhup_check(wanted, want.n) != checked.number)
+        mismatch("the check of take's report isn't the checked reader's");
 }
 
 /* The record of a step that start, push and finish alone have led to. */
@@ -172,18 +201,24 @@ static void try_start(void)
 
 static void try_something(void)
 {
-    uint32_t kind = pick(100);
+    uint32_t kind = pick(130);
 
     if (kind < 56)
-        try_reading();
+        try_reading(PLAIN);
     else if (kind < 76)
-        try_writing();
+        try_writing(PLAIN);
     else if (kind < 79)
         try_sequence();
     else if (kind < 98)
         try_record();
-    else
+    else if (kind < 100)
         try_start();
+    else if (kind < 116)
+        try_reading(CHECKED);
+    else if (kind < 124)
+        try_writing(CHECKED);
+    else
+        try_slice();
 }
 
 /* Take of a record ended well, of each length, with rooms around it. */
@@ -210,19 +245,115 @@ static void try_every_length(void)
     for (each = 0; each < MODES * 128; each++) {
         mode = each % MODES;
         n = each / MODES;
-        make_edge_frame(&made, mode, n, 0);
-        check_read(mode, made.chips, made.length, n);
-        check_read(mode, made.chips, made.length, n + 1);
+        make_edge_frame(&made, mode, pick_junk(), n, 0);
+        check_read(PLAIN, mode, made.chips, made.length, n);
+        check_read(PLAIN, mode, made.chips, made.length, n + 1);
         if (n > 0)
-            check_read(mode, made.chips, made.length, n - 1);
-        check_read(mode, made.chips, made.length - 1, n);
-        make_edge_frame(&made, mode, n, 1);
-        check_read(mode, made.chips, made.length, 127);
+            check_read(PLAIN, mode, made.chips, made.length, n - 1);
+        check_read(PLAIN, mode, made.chips, made.length - 1, n);
+        make_edge_frame(&made, mode, pick_junk(), n, 1);
+        check_read(PLAIN, mode, made.chips, made.length, 127);
         notes_clear();
-        check_write(mode, pick_junk(), n, made.frame);
-        check_write(mode, pick_junk(), n, made.frame - 1);
-        check_write(mode, pick_junk(), n, made.frame + 1);
+        check_write(PLAIN, mode, pick_junk(), n, made.frame);
+        check_write(PLAIN, mode, pick_junk(), n, made.frame - 1);
+        check_write(PLAIN, mode, pick_junk(), n, made.frame + 1);
         try_taking(mode, n);
+    }
+}
+
+/* A report's check, and its frame as the plain writer makes it, with as many errors as accepted and
+ * one more: the checked reader with a room that is too short, with one that isn't, and where a
+ * later symbol is lost. */
+static void try_checked_reading(uint32_t mode, const uint8_t *report, uint32_t n)
+{
+    check_check(report, n);
+    make_edge_frame(&made, mode, report, n, 0);
+    check_read(CHECKED, mode, made.chips, made.length, n);
+    check_read(CHECKED, mode, made.chips, made.length, n + 1);
+    make_edge_frame(&made, mode, report, n, 1);
+    check_read(CHECKED, mode, made.chips, made.length, 127);
+    if (n > 0)
+        check_read(CHECKED, mode, made.chips, made.length, n - 1);
+}
+
+/* Reports of every length: all zero; ended by their FCS; and with a wrong bit. */
+static void try_every_checked_reading(void)
+{
+    uint32_t mode, n, each, bit;
+    uint8_t report[127];
+
+    for (each = 0; each < MODES * 128; each++) {
+        mode = each % MODES;
+        n = each / MODES;
+        memset(report, 0, n);
+        try_checked_reading(mode, report, n);
+        if (n < 2)
+            continue;
+        pick_bytes(report, n);
+        put_fcs(report, n);
+        try_checked_reading(mode, report, n);
+        bit = pick(8 * n);
+        report[bit / 8] ^= (uint8_t)(1 << bit % 8);
+        try_checked_reading(mode, report, n);
+    }
+}
+
+/* The FCS of every number of octets that a report has and more, and of some that a length cut to 16
+ * bits would make a few. */
+static void try_every_slice(void)
+{
+    static uint8_t octets[LENT_MAX];
+    size_t n;
+
+    notes_clear();
+    for (n = 2; n < 65540; n = n == 300 ? 65534 : n + 1) {
+        memcpy(octets, pick_junk(), n);
+        put_fcs(octets, n);
+        check_fcs(octets, n);
+        check_check(octets, n);
+    }
+}
+
+/* Every wrong bit of a report. */
+static void try_every_wrong_bit(void)
+{
+    enum { N = 127 };
+    uint8_t report[N];
+    uint32_t bit;
+
+    notes_clear();
+    pick_bytes(report, N);
+    put_fcs(report, N);
+    for (bit = 0; bit < 8 * N; bit++) {
+        report[bit / 8] ^= (uint8_t)(1 << bit % 8);
+        check_fcs(report, N);
+        check_check(report, N);
+        report[bit / 8] ^= (uint8_t)(1 << bit % 8);
+    }
+}
+
+/* Reports of every length and some above: any, all zero, and all zero but for each octet in turn.
+ * For the last no room is lent, since 3 comes after 16. */
+static void try_every_checked_writing(void)
+{
+    uint8_t report[130] = { 0 };
+    uint32_t mode, n, each, k;
+
+    notes_clear();
+    for (each = 0; each < MODES * 131; each++) {
+        mode = each % MODES;
+        n = each / MODES;
+        check_write(CHECKED, mode, pick_junk(), n, frame_of(CHECKED, mode, n) - 1);
+        check_write(CHECKED, mode, pick_junk(), n, frame_of(CHECKED, mode, n));
+        check_write(CHECKED, mode, pick_junk(), n, frame_of(CHECKED, mode, n) + 1);
+        check_write(CHECKED, make_bad_mode(), report, n, 0);
+        check_write(CHECKED, mode, report, n, 0);
+        check_write(CHECKED, mode, report, n, frame_of(CHECKED, mode, n));
+        for (k = 0; k < n; k++) {
+            report[k] = (uint8_t)(1 << pick(8));
+            check_write(CHECKED, mode, report, n, 0);
+            report[k] = 0;
+        }
     }
 }
 
@@ -242,10 +373,10 @@ static void check_huge_front(void)
     memset(huge_out, 0, LENT_MAX);
 }
 
-static void try_huge_frames(uint32_t mode)
+static void try_huge_frames(enum profile profile, uint32_t mode)
 {
     static const uint8_t report[3] = { 1, 2, 3 };
-    lernazhup_written want, got;
+    lernazhup_written want;
     lernazhup_reading want_read;
     int twice;
 
@@ -255,20 +386,18 @@ static void try_huge_frames(uint32_t mode)
         size_t length = twice == 0 ? 3 : huge + 3;
 
         memset(wanted, 0, LENT_MAX);
-        want = reference_write(mode, in, length, wanted, LENT_MAX);
-        count_case(WRITE, mode, want.number);
-        begin("lernazhup_write", mode, NULL, length, huge + 1);
-        got = lernazhup_write(mode, in, length, huge_out, huge + 1);
-        if (got.number != want.number || got.chips != want.chips)
-            mismatch("the answer to a length above 32 bits differs");
+        want = reference[profile].write(mode, in, length, wanted, LENT_MAX);
+        count_case(profile == PLAIN ? WRITE : WRITE_CHECKED, mode, want.number);
+        begin(compared[profile].write_name, mode, NULL, length, huge + 1);
+        check_written(compared[profile].write(mode, in, length, huge_out, huge + 1), want);
         check_huge_front();
     }
-    reference_write(mode, report, 3, huge_in, LENT_MAX);
+    reference[profile].write(mode, report, 3, huge_in, LENT_MAX);
     memset(wanted, 0, LENT_MAX);
-    want_read = reference_read(mode, huge_in, LENT_MAX, wanted, 127);
-    count_case(READ, mode, want_read.number);
-    begin("lernazhup_read", mode, NULL, huge + 1, huge + 1);
-    check_reading(lernazhup_read(mode, huge_in, huge + 1, huge_out, huge + 1), want_read);
+    want_read = reference[profile].read(mode, huge_in, LENT_MAX, wanted, 127);
+    count_case(profile == PLAIN ? READ : READ_CHECKED, mode, want_read.number);
+    begin(compared[profile].read_name, mode, NULL, huge + 1, huge + 1);
+    check_reading(compared[profile].read(mode, huge_in, huge + 1, huge_out, huge + 1), want_read);
     check_huge_front();
     memset(huge_in, 0, LENT_MAX);
 }
@@ -307,7 +436,8 @@ static void try_huge_lengths(void)
         return;
     }
     for (mode = 0; mode < MODES; mode++) {
-        try_huge_frames(mode);
+        try_huge_frames(PLAIN, mode);
+        try_huge_frames(CHECKED, mode);
         try_huge_records(mode);
     }
 }
@@ -349,6 +479,10 @@ int main(int argc, char **argv)
     while (cases_so_far() < wanted_cases)
         try_something();
     try_every_length();
+    try_every_checked_reading();
+    try_every_slice();
+    try_every_wrong_bit();
+    try_every_checked_writing();
     try_huge_lengths();
     print_counts();
     /* A test that never met a number says nothing on it. Few cases can't be asked for all. */

@@ -17,35 +17,50 @@
 
 /* ---- What is compared ---- */
 
-typedef lernazhup_reading read_function(uint32_t, const uint8_t *, size_t, uint8_t *, size_t);
-typedef lernazhup_written write_function(uint32_t, const uint8_t *, size_t, uint8_t *, size_t);
+const struct calls reference[PROFILES] = {
+    { PLAIN, NULL, NULL, reference_read, reference_write },
+    { CHECKED, NULL, NULL, reference_read_checked, reference_write_checked }
+};
 
-static const struct implementation {
-    const char *read_name, *write_name;
-    read_function *read;
-    write_function *write;
-} implementations[] = {
-    { "lernazhup_read", "lernazhup_write", lernazhup_read, lernazhup_write },
+const struct calls compared[] = {
+    { PLAIN, "lernazhup_read", "lernazhup_write", lernazhup_read, lernazhup_write },
+    { CHECKED, "lernazhup_read_checked", "lernazhup_write_checked",
+        lernazhup_read_checked, lernazhup_write_checked },
 #ifndef LIBRARY_ONLY
-    { "usual_read", NULL, usual_read, NULL },
-    { "best_read", NULL, best_read, NULL },
-    { NULL, "copying_write", NULL, copying_write },
+    { PLAIN, "usual_read", NULL, usual_read, NULL },
+    { PLAIN, "best_read", NULL, best_read, NULL },
+    { PLAIN, NULL, "copying_write", NULL, copying_write },
 #endif
 };
 
-enum { IMPLEMENTATIONS = sizeof implementations / sizeof implementations[0] };
+enum { COMPARED = sizeof compared / sizeof compared[0] };
+
+static const struct { const char *name; uint32_t (*fcs)(const uint8_t *, size_t); } fcs_calls[] = {
+    { "lernazhup_fcs", lernazhup_fcs }, { "lernazhup_fcs_bitwise", lernazhup_fcs_bitwise },
+#ifndef LIBRARY_ONLY
+    { "usual_fcs", usual_fcs },
+#endif
+};
+
+/* the library's are the first */
+enum { LIBRARY_FCS = 2, FCS_CALLS = sizeof fcs_calls / sizeof fcs_calls[0] };
 
 /* ---- The case in hand, and what was met so far ---- */
 
-static const char *const function_names[FUNCTIONS] = { "write", "read", "start", "push", "finish", "take" };
+static const char *const function_names[FUNCTIONS] = {
+    "write", "read", "start", "push", "finish", "take", "write_checked", "read_checked", "check"
+};
 
-/* Numbers by column: 0 to 13, 34, and the others, which take repeats from forged records. */
-enum { FORGED = 14, OTHER = 15, COLUMNS = 16 };
+/* Numbers by column: 0 to 16, 34, and the others, which take repeats from forged records. */
+enum { FORGED = 17, OTHER = 18, COLUMNS = 19 };
+
+/* Modes by row: those of the radios, the modes that no radio has, and the calls without a mode. */
+enum { NO_RADIO = MODES, NO_MODE, ROWS };
 
 static const char *repeat;
-static uint64_t cases, baseline_cases;
-static uint64_t met[FUNCTIONS][MODES + 1][COLUMNS];     /* row MODES: the modes that no radio has */
-static uint64_t written_lengths[MODES][128], read_lengths[MODES][128];
+static uint64_t cases, baseline_cases, fcs_cases;
+static uint64_t met[FUNCTIONS][ROWS][COLUMNS];
+static uint64_t done_lengths[FUNCTIONS][MODES][128];
 
 static struct {
     const char *name;
@@ -136,13 +151,20 @@ void begin_on_record(const char *name, const lernazhup_receiver *record, const u
     now.record = *record;
 }
 
-void count_case(enum function function, uint32_t mode, uint32_t number)
+static void next_case(void)
 {
     enum { SECONDS = 120, OFTEN = 1024 };
 
     if (cases++ % OFTEN == 0)
         alarm(SECONDS);
-    met[function][mode < MODES ? mode : MODES][number <= 13 ? number : number == 34 ? FORGED : OTHER]++;
+}
+
+void count_case(enum function function, uint32_t mode, uint32_t number)
+{
+    uint32_t row = function == CHECK ? NO_MODE : mode < MODES ? mode : NO_RADIO;
+
+    next_case();
+    met[function][row][number <= 16 ? number : number == 34 ? FORGED : OTHER]++;
 }
 
 uint64_t cases_so_far(void)
@@ -203,61 +225,69 @@ void check_reading(lernazhup_reading got, lernazhup_reading want)
     mismatch(words);
 }
 
-lernazhup_reading check_read(uint32_t mode, const uint8_t *chips, size_t length, size_t room)
+lernazhup_reading check_read(enum profile profile, uint32_t mode, const uint8_t *chips,
+    size_t length, size_t room)
 {
     const uint8_t *before = pick_junk();
+    enum function function = profile == PLAIN ? READ : READ_CHECKED;
     lernazhup_reading want;
     int i;
 
     memcpy(wanted, before, room);
-    want = reference_read(mode, chips, length, wanted, room);
-    count_case(READ, mode, want.number);
+    want = reference[profile].read(mode, chips, length, wanted, room);
+    count_case(function, mode, want.number);
     if (want.number == LERNAZHUP_DONE)
-        read_lengths[mode][want.n]++;
-    for (i = 0; i < IMPLEMENTATIONS; i++) {
+        done_lengths[function][mode][want.n]++;
+    for (i = 0; i < COMPARED; i++) {
         uint8_t *in, *out;
 
-        if (implementations[i].read == NULL)
+        if (compared[i].profile != profile || compared[i].read == NULL)
             continue;
-        baseline_cases += i > 0;
-        begin(implementations[i].read_name, mode, chips, length, room);
+        baseline_cases += i >= PROFILES;
+        begin(compared[i].read_name, mode, chips, length, room);
         in = lend_somewhere(LENT_IN, chips, length);
         out = lend_somewhere(LENT_OUT, before, room);
-        check_reading(implementations[i].read(mode, in, length, out, room), want);
+        check_reading(compared[i].read(mode, in, length, out, room), want);
         check_lent(LENT_IN, "chip", chips);
         check_lent(LENT_OUT, "report", wanted);
     }
     return want;
 }
 
-lernazhup_written check_write(uint32_t mode, const uint8_t *report, size_t length, size_t room)
+void check_written(lernazhup_written got, lernazhup_written want)
+{
+    char words[120];
+
+    if (got.number == want.number && got.chips == want.chips)
+        return;
+    snprintf(words, sizeof words, "number, chips are %" PRIu32 " %" PRIu32 " and should be %" PRIu32
+        " %" PRIu32, got.number, got.chips, want.number, want.chips);
+    mismatch(words);
+}
+
+lernazhup_written check_write(enum profile profile, uint32_t mode, const uint8_t *report,
+    size_t length, size_t room)
 {
     const uint8_t *before = pick_junk();
+    enum function function = profile == PLAIN ? WRITE : WRITE_CHECKED;
     lernazhup_written want;
-    char words[120];
     int i;
 
     memcpy(wanted, before, room);
-    want = reference_write(mode, report, length, wanted, room);
-    count_case(WRITE, mode, want.number);
+    want = reference[profile].write(mode, report, length, wanted, room);
+    count_case(function, mode, want.number);
     if (want.number == LERNAZHUP_DONE)
-        written_lengths[mode][length]++;
-    for (i = 0; i < IMPLEMENTATIONS; i++) {
-        lernazhup_written got;
+        done_lengths[function][mode][length]++;
+    for (i = 0; i < COMPARED; i++) {
         uint8_t *in, *out;
 
-        if (implementations[i].write == NULL)
+        if (compared[i].profile != profile || compared[i].write == NULL)
             continue;
-        baseline_cases += i > 0;
-        begin(implementations[i].write_name, mode, report, length, room);
+        baseline_cases += i >= PROFILES;
+        begin(compared[i].write_name, mode, report, length, room);
         in = lend_somewhere(LENT_IN, report, length);
         out = lend_somewhere(LENT_OUT, before, room);
-        got = implementations[i].write(mode, in, length, out, room);
-        if (got.number != want.number || got.chips != want.chips) {
-            snprintf(words, sizeof words, "number, chips are %" PRIu32 " %" PRIu32 " and should be %" PRIu32 " %" PRIu32,
-                got.number, got.chips, want.number, want.chips);
-            mismatch(words);
-        }
+        check_written(compared[i].write(mode, in, length, out, room), want);
         check_lent(LENT_IN, "report", report);
         check_lent(LENT_OUT, "chip", wanted);
     }
@@ -339,61 +369,140 @@ lernazhup_reading check_take(lernazhup_receiver record, size_t room)
     return want;
 }
 
+/* ---- The frame check's calls without chips ---- */
+
+static void check_number(uint32_t got, uint32_t want)
+{
+    char words[100];
+
+    if (got == want)
+        return;
+    snprintf(words, sizeof words, "the answer is %" PRIu32 " and should be %" PRIu32, got, want);
+    mismatch(words);
+}
+
+void check_check(const uint8_t *octets, size_t length)
+{
+    uint32_t want = reference_check(octets, length);
+    uint8_t *in;
+
+    count_case(CHECK, 0, want);
+    begin("lernazhup_check", 0, octets, length, 0);
+    in = lend_somewhere(LENT_IN, octets, length);
+    check_number(lernazhup_check(in, length), want);
+    check_lent(LENT_IN, "report", octets);
+}
+
+void check_fcs(const uint8_t *octets, size_t length)
+{
+    uint32_t want = reference_fcs(octets, length);
+    int i;
+
+    for (i = 0; i < FCS_CALLS; i++) {
+        uint8_t *in;
+
+        if (i < LIBRARY_FCS) {
+            next_case();
+            fcs_cases++;
+        } else
+            baseline_cases++;
+        begin(fcs_calls[i].name, 0, octets, length, 0);
+        in = lend_somewhere(LENT_IN, octets, length);
+        check_number(fcs_calls[i].fcs(in, length), want);
+        check_lent(LENT_IN, "octet", octets);
+    }
+}
+
 /* ---- Was each number met? ---- */
 
-/* Document 01's table "Numbers given back", by function. */
-static const int8_t columns_of[FUNCTIONS][12] = {
+/* Document 01's table "Numbers given back" and document 02's refusals, by function. */
+static const int8_t columns_of[FUNCTIONS][13] = {
     { 0, 1, 2, 3, -1 },
     { 0, 1, 3, 4, 5, 6, 7, 8, 9, -1 },
     { 1, 13, -1 },
     { 0, 5, 6, 7, 8, 9, 10, 11, 13, FORGED, -1 },
     { 4, 10, FORGED, -1 },
-    { 0, 1, 3, 4, 5, 6, 7, 8, 9, 12, FORGED, -1 }
+    { 0, 1, 3, 4, 5, 6, 7, 8, 9, 12, FORGED, -1 },
+    { 0, 1, 2, 3, 14, 16, -1 },
+    { 0, 1, 3, 4, 5, 6, 7, 8, 9, 14, 15, 16, -1 },
+    { 0, 14, 15, 16, -1 }
 };
 
-int all_met(void)
+/* The lengths of the reports that are written and read. */
+static const struct { enum function function; int least, most; } lengths_of[] = {
+    { WRITE, 0, 127 }, { READ, 0, 127 }, { WRITE_CHECKED, 1, 125 }, { READ_CHECKED, 3, 127 }
+};
+
+/* Whether a function has to give a number in the modes of a row: 1 is for those that no radio has,
+ * the others are for each that one has. */
+static int to_be_met(int f, int column, int row)
 {
-    int f, i, mode, n, all = 1;
+    if (f == CHECK)
+        return row == NO_MODE;
+    return column == 1 ? row == NO_RADIO : row < MODES;
+}
+
+static int numbers_met(void)
+{
+    int f, i, row, all = 1;
 
     for (f = 0; f < FUNCTIONS; f++)
         for (i = 0; columns_of[f][i] >= 0; i++)
-            for (mode = 0; mode <= MODES; mode++) {
+            for (row = 0; row < ROWS; row++) {
                 int column = columns_of[f][i];
 
-                /* 1 is for the modes that no radio has, and the others for each that one has. */
-                if ((column == 1) == (mode == MODES) && met[f][mode][column] == 0) {
-                    printf("mode %d: %s never answered %d\n", mode, function_names[f], column == FORGED ? 34 : column);
+                if (to_be_met(f, column, row) && met[f][row][column] == 0) {
+                    printf("mode %d: %s never answered %d\n", row, function_names[f],
+                        column == FORGED ? 34 : column);
                     all = 0;
                 }
             }
-    for (mode = 0; mode < MODES; mode++)
-        for (n = 0; n < 128; n++)
-            if (written_lengths[mode][n] == 0 || read_lengths[mode][n] == 0) {
-                printf("mode %d: %d octets never written or never read\n", mode, n);
-                all = 0;
+    return all;
+}
+
+static int lengths_met(void)
+{
+    size_t i;
+    int f, mode, n, all = 1;
+
+    for (i = 0; i < sizeof lengths_of / sizeof lengths_of[0]; i++)
+        for (mode = 0; mode < MODES; mode++)
+            for (n = lengths_of[i].least; n <= lengths_of[i].most; n++) {
+                f = lengths_of[i].function;
+                if (done_lengths[f][mode][n] == 0) {
+                    printf("mode %d: %s never did %d octets\n", mode, function_names[f], n);
+                    all = 0;
+                }
             }
     return all;
+}
+
+int all_met(void)
+{
+    int numbers = numbers_met(), lengths = lengths_met();
+
+    return numbers && lengths;
 }
 
 /* The cases of a function that were answered with the number of a column. */
 static uint64_t answered(int f, int column)
 {
     uint64_t sum = 0;
-    int mode;
+    int row;
 
-    for (mode = 0; mode <= MODES; mode++)
-        sum += met[f][mode][column];
+    for (row = 0; row < ROWS; row++)
+        sum += met[f][row][column];
     return sum;
 }
 
-static uint64_t in_mode(int mode)
+static uint64_t in_row(int row)
 {
     uint64_t sum = 0;
     int f, n;
 
     for (f = 0; f < FUNCTIONS; f++)
         for (n = 0; n < COLUMNS; n++)
-            sum += met[f][mode][n];
+            sum += met[f][row][n];
     return sum;
 }
 
@@ -406,18 +515,20 @@ void print_counts(void)
 
         for (n = 0; n < COLUMNS; n++)
             all += answered(f, n);
-        printf("%-6s %8" PRIu64 " cases, by number:", function_names[f], all);
+        printf("%-13s %8" PRIu64 " cases, by number:", function_names[f], all);
         for (n = 0; n < OTHER; n++)
             if (answered(f, n) > 0)
                 printf(" %d: %" PRIu64 ",", n == FORGED ? 34 : n, answered(f, n));
         printf(" others: %" PRIu64 "\n", answered(f, OTHER));
     }
-    printf("all    %8" PRIu64 " cases, by mode:", cases);
+    printf("fcs           %8" PRIu64 " cases, half of them by table\n", fcs_cases);
+    printf("all           %8" PRIu64 " cases, by mode:", cases);
     for (mode = 0; mode < MODES; mode++)
-        printf(" %d: %" PRIu64 ",", mode, in_mode(mode));
-    printf(" others: %" PRIu64 "\n", in_mode(MODES));
-    printf("lent   %8" PRIu64 " buffers that end at an unmapped page, %" PRIu64 " that begin at one, %" PRIu64
-        " between guard bytes, %" PRIu64 " null\n",
+        printf(" %d: %" PRIu64 ",", mode, in_row(mode));
+    printf(" others: %" PRIu64 ", none: %" PRIu64 "\n", in_row(NO_RADIO),
+        in_row(NO_MODE) + fcs_cases);
+    printf("lent          %8" PRIu64 " buffers that end at an unmapped page, %" PRIu64
+        " that begin at one, %" PRIu64 " between guard bytes, %" PRIu64 " null\n",
         lent_at[LENT_AT_END], lent_at[LENT_AT_START], lent_at[LENT_BETWEEN], lent_at[LENT_NULL]);
     printf("%" PRIu64 " cases, no mismatch; %" PRIu64 " more of the baselines\n", cases, baseline_cases);
 }

@@ -10,16 +10,39 @@
 #include "lent_memory.h"
 #include "lernazhup.h"
 
+/* ---- What is compared ---- */
+
+/* Readers and writers: document 01's, and those of document 02 for reports that end with their
+ * FCS. */
+enum profile { PLAIN, CHECKED, PROFILES };
+
+typedef lernazhup_reading read_function(uint32_t, const uint8_t *, size_t, uint8_t *, size_t);
+typedef lernazhup_written write_function(uint32_t, const uint8_t *, size_t, uint8_t *, size_t);
+
+struct calls {
+    enum profile profile;
+    const char *read_name, *write_name;
+    read_function *read;
+    write_function *write;
+};
+
+extern const struct calls reference[PROFILES];
+extern const struct calls compared[];   /* first the library's, by profile */
+
 /* ---- Compared calls; each gives the reference's answer ---- */
 
-/* The baseline readers and the baseline writer go through the same readings and writings, unless
- * built with LIBRARY_ONLY. */
-lernazhup_reading check_read(uint32_t mode, const uint8_t *chips, size_t length, size_t room);
-lernazhup_written check_write(uint32_t mode, const uint8_t *report, size_t length, size_t room);
+/* The baseline readers and the baseline writer go through the same readings and writings of the
+ * plain profile, unless built with LIBRARY_ONLY. */
+lernazhup_reading check_read(enum profile profile, uint32_t mode, const uint8_t *chips,
+    size_t length, size_t room);
+lernazhup_written check_write(enum profile profile, uint32_t mode, const uint8_t *report,
+    size_t length, size_t room);
 lernazhup_receiver check_start(uint32_t mode);
 lernazhup_step check_push(lernazhup_receiver record, const uint8_t *part, size_t length);
 lernazhup_step check_finish(lernazhup_receiver record);
 lernazhup_reading check_take(lernazhup_receiver record, size_t room);
+void check_check(const uint8_t *octets, size_t length);
+void check_fcs(const uint8_t *octets, size_t length);   /* by table and bit by bit */
 
 /* ---- Parts of them, for checks of another shape ---- */
 
@@ -29,6 +52,7 @@ void begin(const char *name, uint32_t mode, const uint8_t *in, size_t in_length,
 void begin_on_record(const char *name, const lernazhup_receiver *record, const uint8_t *in, size_t in_length, size_t room);
 
 void check_reading(lernazhup_reading got, lernazhup_reading want);
+void check_written(lernazhup_written got, lernazhup_written want);
 void check_step(lernazhup_step got, lernazhup_step want);
 void check_lent(enum lent_slot slot, const char *what, const uint8_t *bytes);
 void mismatch(const char *what);
@@ -42,7 +66,10 @@ const uint8_t *pick_junk(void);
 
 /* ---- What was met ---- */
 
-enum function { WRITE, READ, START, PUSH, FINISH, TAKE, FUNCTIONS };
+/* All but the FCS, which has no number to give. */
+enum function {
+    WRITE, READ, START, PUSH, FINISH, TAKE, WRITE_CHECKED, READ_CHECKED, CHECK, FUNCTIONS
+};
 
 void count_case(enum function function, uint32_t mode, uint32_t number);
 uint64_t cases_so_far(void);

@@ -1,7 +1,7 @@
 /*
  * The reference held to the documents' own numbers: the rows of the code tables as printed, the
  * facts that the work stands on, the bench sheet A to L, what 01 gives for running and comparing,
- * and what 02 gives for the third radio.
+ * and what 02 gives for the third radio and the frame check, with the published vectors of the FCS.
  */
 #include "printed_facts.h"
 
@@ -203,6 +203,57 @@ static void no_radio(void)
     }
 }
 
+static const uint8_t zeros[126];
+
+/* The standard's example, an acknowledgement with its FCS; the check value of catalogues; and a
+ * report that isn't all zero but has the FCS 0. */
+static const uint8_t acknowledgement[] = { 0x02, 0x00, 0x6A, 0xE4, 0x79 };
+static const uint8_t digits[] = { '1', '2', '3', '4', '5', '6', '7', '8', '9' };
+static const uint8_t fcs_zero[] = { 0x01, 0x89, 0x11, 0x00, 0x00 };
+
+static void checks(void)
+{
+    uint32_t n;
+
+    fact("published FCS", reference_fcs(acknowledgement, 3) == 0x79E4);
+    fact("published FCS", reference_fcs(digits, 9) == 0x2189);
+    fact("low octet first", reference_check(acknowledgement, 5) == LERNAZHUP_DONE);
+    fact("FCS 0", reference_check(fcs_zero, 5) == LERNAZHUP_DONE);
+    for (n = 0; n <= 126; n++)
+        fact("zeros", reference_check(zeros, n) == (n < 3 ? LERNAZHUP_TOOFEW : LERNAZHUP_ALLZERO));
+}
+
+/* The checked writer's answer to a report for which no room is lent. */
+static uint32_t roomless(uint32_t mode, const uint8_t *octets, size_t n)
+{
+    return reference_write_checked(mode, octets, n, NULL, 0).number;
+}
+
+static void checked_frames(void)
+{
+    uint8_t room[127];
+    uint32_t mode;
+
+    fact("1 before 14", roomless(3, NULL, 0) == LERNAZHUP_BADMODE);
+    for (mode = 0; mode < MODES; mode++) {
+        uint32_t symbols = 11 * reference_per_octet(mode), size = symbols * reference_chips(mode);
+        lernazhup_written written = reference_write_checked(mode, acknowledgement, 3, chips, size);
+        lernazhup_reading reading = reference_read_checked(mode, chips, size, room, 127);
+
+        fact("14", roomless(mode, NULL, 0) == LERNAZHUP_TOOFEW);
+        fact("2 before 16", roomless(mode, zeros, 126) == LERNAZHUP_TOOLONG);
+        fact("16 before 3", roomless(mode, zeros, 125) == LERNAZHUP_ALLZERO);
+        fact("125 octets", roomless(mode, report, 125) == LERNAZHUP_NOROOM);
+        fact("two octets more", written.chips == size);
+        fact("both counted", is_reading(reading, LERNAZHUP_DONE, symbols, 5, 0));
+        fact("both stored", memcmp(room, acknowledgement, 5) == 0);
+        reference_write(mode, report, 5, chips, size);
+        reading = reference_read_checked(mode, chips, size, room, 127);
+        fact("15", is_reading(reading, LERNAZHUP_BADCHECK, symbols, 0, 0));
+        fact("unchanged", memcmp(room, acknowledgement, 5) == 0);
+    }
+}
+
 int facts_hold(void)
 {
     all_hold = 1;
@@ -218,5 +269,7 @@ int facts_hold(void)
     lengths(2, 192, 32, 4256);
     readings();
     no_radio();
+    checks();
+    checked_frames();
     return all_hold;
 }

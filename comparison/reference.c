@@ -1,7 +1,7 @@
 /*
- * The reference: document 01 in plain C, with the third radio of document 02. It is meant for being
- * checked by eye with 01 in the other hand, so it follows 01's words and order and does nothing for
- * speed: each symbol is compared with every word, chip by chip.
+ * The reference: document 01 in plain C, with the third radio and the frame check of document 02.
+ * It is meant for being checked by eye with 01 in the other hand, so it follows 01's words and
+ * order and does nothing for speed: each symbol is compared with every word, chip by chip.
  *
  * The reader keeps the raw symbols and reads octets off them; push works on the record, as the
  * header describes it. The two share only what one symbol is (match, raw_of), so that their
@@ -362,6 +362,108 @@ lernazhup_reading reference_take(lernazhup_receiver r, uint8_t *report, size_t r
     for (k = 0; k < r.length; k++)
         report[k] = r.octets[k];
     return done(r.taken, r.length, r.count);
+}
+
+/* ---- The frame check ---- */
+
+/* The ITU-T polynomial, x^16 + x^12 + x^5 + 1. */
+enum { GENERATOR = 0x11021 };
+
+/*
+ * As the standard says it: the octets' bits in the order of sending are the coefficients of a
+ * polynomial, the first at the highest power. That one times x^16 is divided by the generator, and
+ * the remainder's coefficients, again from the highest power down, are the bits of the FCS in the
+ * order of sending.
+ */
+uint32_t reference_fcs(const uint8_t *octets, size_t octets_len)
+{
+    uint32_t remainder = 0, fcs = 0, b;
+    size_t k;
+
+    for (k = 0; k < octets_len; k++) {
+        for (b = 0; b < 8; b++) {
+            /* Lowest bit first. */
+            uint32_t bit = octets[k] >> b & 1;
+
+            remainder = remainder << 1 ^ bit << 16;
+            if (remainder >= 1 << 16)
+                remainder ^= GENERATOR;
+        }
+    }
+    for (b = 0; b < 16; b++)
+        fcs += (remainder >> (15 - b) & 1) << b;
+    return fcs;
+}
+
+/* The two octets of the FCS, low octet first. */
+static void fcs_octets(const uint8_t *octets, size_t octets_len, uint8_t *two)
+{
+    uint32_t fcs = reference_fcs(octets, octets_len);
+
+    two[0] = (uint8_t)(fcs % 256);
+    two[1] = (uint8_t)(fcs / 256);
+}
+
+static int all_zero(const uint8_t *octets, size_t octets_len)
+{
+    size_t k;
+
+    for (k = 0; k < octets_len; k++)
+        if (octets[k] != 0)
+            return 0;
+    return 1;
+}
+
+uint32_t reference_check(const uint8_t *octets, size_t octets_len)
+{
+    uint8_t two[2];
+
+    if (octets_len < 3)
+        return LERNAZHUP_TOOFEW;
+    fcs_octets(octets, octets_len - 2, two);
+    if (memcmp(two, octets + octets_len - 2, 2) != 0)
+        return LERNAZHUP_BADCHECK;
+    if (all_zero(octets, octets_len))
+        return LERNAZHUP_ALLZERO;
+    return LERNAZHUP_DONE;
+}
+
+lernazhup_written reference_write_checked(uint32_t mode, const uint8_t *report, size_t report_len,
+    uint8_t *chips, size_t chips_len)
+{
+    lernazhup_written answer = { LERNAZHUP_DONE, 0 };
+    uint8_t octets[127];
+
+    if (radio_of(mode) == NULL)
+        answer.number = LERNAZHUP_BADMODE;
+    else if (report_len == 0)
+        answer.number = LERNAZHUP_TOOFEW;
+    else if (report_len > 125)
+        answer.number = LERNAZHUP_TOOLONG;
+    else if (all_zero(report, report_len))
+        answer.number = LERNAZHUP_ALLZERO;
+    if (answer.number != LERNAZHUP_DONE)
+        return answer;
+    memcpy(octets, report, report_len);
+    fcs_octets(report, report_len, octets + report_len);
+    return reference_write(mode, octets, report_len + 2, chips, chips_len);
+}
+
+lernazhup_reading reference_read_checked(uint32_t mode, const uint8_t *chips, size_t chips_len,
+    uint8_t *report, size_t report_len)
+{
+    uint8_t octets[127];
+    size_t room = report_len < 127 ? report_len : 127;
+    lernazhup_reading plain = reference_read(mode, chips, chips_len, octets, room);
+    uint32_t number;
+
+    if (plain.number != LERNAZHUP_DONE)
+        return plain;
+    number = reference_check(octets, plain.n);
+    if (number != LERNAZHUP_DONE)
+        return refused(number, plain.place);
+    memcpy(report, octets, plain.n);
+    return plain;
 }
 
 /* ---- For the makers of cases ---- */

@@ -1,7 +1,7 @@
 /*
- * The reference: document 01 in plain C, with the third radio of document 02 and the signatures of
- * the library. The differential test compares the library with it. It was written from the
- * documents and the header, without sight of the library's source.
+ * The reference: document 01 in plain C, with the third radio and the frame check of document 02
+ * and the signatures of the library. The differential test compares the library with it. It was
+ * written from the documents and the header, without sight of the library's source.
  */
 #ifndef REFERENCE_H
 #define REFERENCE_H
@@ -17,6 +17,14 @@ lernazhup_step reference_start(uint32_t mode);
 lernazhup_step reference_push(lernazhup_receiver receiver, const uint8_t *part, size_t part_len);
 lernazhup_step reference_finish(lernazhup_receiver receiver);
 lernazhup_reading reference_take(lernazhup_receiver receiver, uint8_t *report, size_t report_len);
+
+/* The frame check. The library has the FCS twice, by table and bit by bit; this is held to both. */
+uint32_t reference_fcs(const uint8_t *octets, size_t octets_len);
+uint32_t reference_check(const uint8_t *octets, size_t octets_len);
+lernazhup_written reference_write_checked(uint32_t mode, const uint8_t *report, size_t report_len,
+    uint8_t *chips, size_t chips_len);
+lernazhup_reading reference_read_checked(uint32_t mode, const uint8_t *chips, size_t chips_len,
+    uint8_t *report, size_t report_len);
 
 /*
  * For the makers of cases. The chips of any octets, as the writer spreads them in a mode that a

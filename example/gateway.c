@@ -1,7 +1,8 @@
-/* An example gateway: a report goes out as chips, the chips are damaged on their way, and the
- * report is read back, whole and symbol by symbol. Then the aerial is pulled in the middle of the
- * frame, and the same calls refuse: a rope that cannot be heard is not a dry one. Last comes a
- * stream of chips with two frames somewhere in it, which are found by trying.
+/* An example gateway, in the checked profile: a report goes out as chips with its FCS behind it,
+ * the chips are damaged on their way, and the report is read back, whole and symbol by symbol. Then
+ * a symbol is misread, the aerial is pulled in the middle of the frame, and a rope is unplugged,
+ * and the same calls refuse: a rope that cannot be heard is not a dry one. Last comes a stream of
+ * chips with two frames somewhere in it, which are found by trying.
  *   gateway [MODE]          0, 1 or 2; 1 where none is named */
 #include <stdio.h>
 #include <stdlib.h>
@@ -24,14 +25,14 @@ static unsigned damage(uint8_t *chips, size_t length, size_t size, unsigned limi
     return wrong;
 }
 
-/* The answer in words. Before the call the report buffer was full of blanks: a refusal leaves it
- * so. */
+/* The answer in words, the report without the two octets of its FCS. Before the call the report
+ * buffer was full of blanks: a refusal leaves it so. */
 static void tell(const char *how, lernazhup_reading answer, const uint8_t *report)
 {
     size_t kept = 0;
     printf("  %s: %u, %s", how, (unsigned)answer.number, lernazhup_meaning(answer.number));
     if (answer.number == LERNAZHUP_DONE) {
-        printf(": '%.*s', %u symbols, %u chips repaired\n", (int)answer.n, (const char *)report,
+        printf(": '%.*s', %u symbols, %u chips repaired\n", (int)answer.n - 2, (const char *)report,
                (unsigned)answer.place, (unsigned)answer.count);
         return;
     }
@@ -45,7 +46,22 @@ static void read_whole(uint32_t mode, const uint8_t *chips, size_t length)
 {
     uint8_t report[LERNAZHUP_REPORT_MAX];
     memset(report, ' ', sizeof report);
-    tell("whole", lernazhup_read(mode, chips, length, report, sizeof report), report);
+    tell("whole", lernazhup_read_checked(mode, chips, length, report, sizeof report), report);
+}
+
+/* What lernazhup_read_checked gives, of a receiver. The receiver is plain: take stores whatever was
+ * read, so it is given octets aside, and only those that pass become the report. */
+static lernazhup_reading take_checked(lernazhup_receiver receiver, uint8_t *report)
+{
+    uint8_t octets[LERNAZHUP_REPORT_MAX];
+    lernazhup_reading answer = lernazhup_take(receiver, octets, sizeof octets);
+    if (answer.number == LERNAZHUP_DONE)
+        answer.number = lernazhup_check(octets, answer.n);
+    if (answer.number == LERNAZHUP_DONE)
+        memcpy(report, octets, answer.n);
+    else
+        answer.n = answer.count = 0;
+    return answer;
 }
 
 /* As a front end would hand them over: a symbol at a call, until the record ends or nothing more
@@ -61,7 +77,7 @@ static void read_by_symbol(uint32_t mode, const uint8_t *chips, size_t length)
         number = lernazhup_push_into(&receiver, chips + at, size);
     if (number == LERNAZHUP_MORE)
         lernazhup_finish_into(&receiver);
-    tell("by symbol", lernazhup_take(receiver, report, sizeof report), report);
+    tell("by symbol", take_checked(receiver, report), report);
 }
 
 static void read_both_ways(const char *when, uint32_t mode, const uint8_t *chips, size_t length)
@@ -80,7 +96,7 @@ static void find_frames(uint32_t mode, const uint8_t *stream, size_t length)
     size_t at = 0;
     while (at < length) {
         lernazhup_reading answer =
-            lernazhup_read(mode, stream + at, length - at, report, sizeof report);
+            lernazhup_read_checked(mode, stream + at, length - at, report, sizeof report);
         if (answer.number == LERNAZHUP_DONE) {
             snprintf(where, sizeof where, "at chip %u", (unsigned)at);
             tell(where, answer, report);
@@ -110,11 +126,28 @@ static uint32_t mode_of(const char *text)
     return digits && number <= UINT32_MAX ? (uint32_t)number : UINT32_MAX;
 }
 
-/* One report, as sent, damaged, and with the aerial pulled or the front end off in its midst. */
+/* The next symbol that isn't the preamble's becomes that one: every symbol reads, and only the FCS
+ * can tell. */
+static void misread(uint32_t mode, uint8_t *chips, size_t length, size_t at)
+{
+    uint8_t kept[LERNAZHUP_SYMBOL_MAX];
+    size_t size = LERNAZHUP_SYMBOL_CHIPS(mode);
+    while (memcmp(chips + at, chips, size) == 0)
+        at += size;
+    memcpy(kept, chips + at, size);
+    memcpy(chips + at, chips, size);
+    printf("symbol %u another code word, ", (unsigned)(at / size));
+    read_both_ways("which only the FCS can tell", mode, chips, length);
+    memcpy(chips + at, kept, size);
+}
+
+/* One report, as sent, misread, damaged, and with the aerial pulled or the front end off in its
+ * midst. */
 static void one_frame(uint32_t mode, uint8_t *chips, size_t length)
 {
     size_t size = LERNAZHUP_SYMBOL_CHIPS(mode), pulled = length / size * 3 / 4;
     read_both_ways("as sent", mode, chips, length);
+    misread(mode, chips, length, pulled * size);
     printf("%u chips wrong, ", damage(chips, length, size, LERNAZHUP_ACCEPTED(mode)));
     read_both_ways("none past the accepted distance of its symbol", mode, chips, length);
     memset(chips + pulled * size, 0, length - pulled * size);
@@ -122,6 +155,14 @@ static void one_frame(uint32_t mode, uint8_t *chips, size_t length)
     read_both_ways("flat chips from there", mode, chips, length);
     read_both_ways("front end off at that symbol, and no chips at all from there", mode, chips,
                    pulled * size);
+}
+
+/* What a module sends in the plain profile when its rope is unplugged. Its FCS is right. */
+static void zeros(uint32_t mode, uint8_t *chips, size_t room)
+{
+    static const uint8_t unplugged[8] = {0};
+    lernazhup_written out = lernazhup_write(mode, unplugged, sizeof unplugged, chips, room);
+    read_both_ways("a rope unplugged, every octet 0", mode, chips, out.chips);
 }
 
 /* Noise, a frame, noise, another frame, noise. */
@@ -133,8 +174,8 @@ static void two_frames(uint32_t mode)
     noise(stream, sizeof stream);
     for (k = 0; k < 2; k++) {
         uint8_t *frame = stream + length;
-        lernazhup_written out = lernazhup_write(mode, (const uint8_t *)texts[k], strlen(texts[k]),
-                                                frame, sizeof stream - length);
+        lernazhup_written out = lernazhup_write_checked(
+            mode, (const uint8_t *)texts[k], strlen(texts[k]), frame, sizeof stream - length);
         damage(frame, out.chips, LERNAZHUP_SYMBOL_CHIPS(mode), LERNAZHUP_ACCEPTED(mode));
         length += out.chips + 500;
     }
@@ -148,13 +189,14 @@ int main(int count, char **arguments)
     static uint8_t chips[LERNAZHUP_CHIPS_MAX];
     uint32_t mode = count > 1 ? mode_of(arguments[1]) : 1;
     lernazhup_written out =
-        lernazhup_write(mode, (const uint8_t *)text, strlen(text), chips, sizeof chips);
+        lernazhup_write_checked(mode, (const uint8_t *)text, strlen(text), chips, sizeof chips);
     if (out.number != LERNAZHUP_DONE) {
         fprintf(stderr, "%u, %s\n", (unsigned)out.number, lernazhup_meaning(out.number));
         return 1;
     }
     printf("'%s' in mode %u: %u chips\n", text, (unsigned)mode, (unsigned)out.chips);
     one_frame(mode, chips, out.chips);
+    zeros(mode, chips, sizeof chips);
     two_frames(mode);
     return 0;
 }

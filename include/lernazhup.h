@@ -9,32 +9,50 @@
  *   2     868/915 O-QPSK  16        2                  192 + 32 n              4,256
  *
  * Every call takes every mode number, every buffer and every record, ends, and answers one of the
- * numbers below (take repeats the number that ended a record as it stands). A refusal leaves every
- * lent byte as it was.
+ * numbers below (take repeats the number that ended a record as it stands; the FCS has two calls
+ * that answer it). A refusal leaves every lent byte as it was.
  *
- * What is refused for certain: a symbol that is farther from every code word than the accepted
- * distance. A flat symbol, all 0 or all 1, is always that far from each, so that no frame holds
- * one.
- * What isn't: noise that happens to be near a code word is read as that word. Of 100 random symbols
- * 60.7 are near one in mode 0, which accepts six wrong chips of fifteen, 3.3 in mode 2 and 0.09 in
- * mode 1. Where noise takes the place of one symbol of a report, another report is read three times
- * in ten in mode 0, three times in a hundred in mode 2 and less than once in a thousand in mode 1.
- * To find that is for a check in the report itself; the count of chips repaired is a hint.
+ * Two profiles. In the plain one (lernazhup_write, lernazhup_read and the stepping receiver) a
+ * report is any octets. In the checked one (lernazhup_write_checked, lernazhup_read_checked) it
+ * ends with two octets of check, the FCS of IEEE 802.15.4: the writer appends them, and the reader
+ * refuses a report that has nothing before them, whose FCS is wrong, or whose octets are all 0. A
+ * gateway should use the checked one. The stepping receiver is plain: who receives by symbol asks
+ * lernazhup_check after take, and throws the report away where that answers anything but
+ * LERNAZHUP_DONE.
+ *
+ * What either profile refuses for certain: a symbol that is farther from every code word than the
+ * accepted distance. A flat symbol, all 0 or all 1, is always that far from each, so that no frame
+ * holds one.
+ * What the plain one can't find: noise that happens to be near a code word is read as that word. Of
+ * 100 random symbols 60.7 are near one in mode 0, which accepts six wrong chips of fifteen, 3.3 in
+ * mode 2 and 0.09 in mode 1. Where noise takes the place of one symbol of a report, another report
+ * is read three times in ten in mode 0, three times in a hundred in mode 2 and less than once in a
+ * thousand in mode 1. The count of chips repaired is no more than a hint.
+ * What the checked one finds for certain besides: of two different reports of one length that both
+ * end in their right FCS, four bits or more differ, an even number of them, and never all within 16
+ * in a row (an octet's lowest bit goes first). So up to three wrong bits are always found, and one
+ * misread symbol of a report: its bits lie side by side, and in mode 0 it turns its own bit and the
+ * next.
+ * What the checked one can't find: other errors pass about once in 65,536 times, a misread length
+ * among them. A frame of somebody else's making, or an old one sent again, has a right FCS, too.
+ * And octets that are all 0 have the FCS 0, which would pass: hence LERNAZHUP_ALLZERO, since zeros
+ * are what an unplugged rope gives.
  *
  * Who finds the frame: the caller. The first chip of a buffer is taken for the first chip of the
  * preamble, and no other beginning is looked for. In a stream, try one chip after the other as the
- * beginning, with room for any report:
+ * beginning, by the checked reader and with room for any report:
  *   LERNAZHUP_DONE     a frame. Go on behind it, place times LERNAZHUP_SYMBOL_CHIPS(mode) chips
- *                      further on; but where the report's own check finds it wrong, at the next
- *                      chip: a frame that was cut off may have swallowed part of the one after it.
+ *                      further on.
  *   LERNAZHUP_RUNOUT   what is there may be a frame's first part. Try here again when more chips
  *                      have come (never the answer with LERNAZHUP_CHIPS_MAX chips from here on);
  *                      when none will come, go on at the next chip.
- *   any other refusal  no frame that can be read begins here. Go on at the next chip, and not where
- *                      the reading ended: the next frame may begin before that.
- * So the chips of a frame that is refused are tried, too, and a report whose octets spell a frame
- * can be taken for one: another reason for a check in the report. The stepping receiver keeps no
- * chips: whoever searches with it keeps them, to try another beginning.
+ *   any other refusal  no frame that can be read begins here, or its report doesn't pass. Go on at
+ *                      the next chip, and not where the reading ended: the next frame may begin
+ *                      before that, and one that was cut off may have swallowed part of it.
+ * So the chips of a frame that is refused are tried, too, and a report whose octets spell a frame,
+ * FCS and all, can be taken for one. In the plain profile any octets of a frame's form do, and a
+ * frame that swallowed part of the next is LERNAZHUP_DONE like any other. The stepping receiver
+ * keeps no chips: whoever searches with it keeps them, to try another beginning.
  *
  * Buffers. A pointer and a length are a buffer: so many bytes, all readable, and writable where the
  * pointer isn't const. A null pointer with length 0 is an empty buffer. No other null pointer may
@@ -42,9 +60,10 @@
  * every object in C. Nothing is kept of a buffer after the call, nothing is allocated, and there is
  * no state outside the arguments: calls may run at the same time, each on its own buffers.
  *
- * What stands below at lernazhup_write, _read, _start, _push, _finish and _take about answers,
- * records and lent bytes is proved, and that flat symbols are refused. Null pointers, the layout of
- * the structs, the stack (under 4 KiB a call), the lack of allocation and what is written in C are
+ * What stands below at lernazhup_write, _read, _write_checked, _read_checked, _check, _fcs,
+ * _fcs_bitwise, _start, _push, _finish and _take about answers, records and lent bytes is proved,
+ * and so is what either profile refuses or finds for certain. Null pointers, the layout of the
+ * structs, the stack (under 4 KiB a call), the lack of allocation and what is written in C are
  * tested. How to search a stream is advice: the example gateway runs it, and no theorem is about
  * it. The library is for x86-64. The rules on buffers are checked by nothing: they are yours to
  * keep. */
@@ -62,32 +81,39 @@ extern "C" {
  * rule goes or changes its meaning, so that callers have to do something (CHANGELOG.md says what);
  * the minor number where something is added; the last where nothing changes that a caller sees. */
 #define LERNAZHUP_VERSION_MAJOR 1
-#define LERNAZHUP_VERSION_MINOR 1
+#define LERNAZHUP_VERSION_MINOR 2
 #define LERNAZHUP_VERSION_PATCH 0
-#define LERNAZHUP_VERSION "1.1.0"
+#define LERNAZHUP_VERSION "1.2.0"
 
 /* The numbers given back. */
-#define LERNAZHUP_DONE 0u      /* done                                write, read, push, take */
-#define LERNAZHUP_BADMODE 1u   /* mode above 2                        write, read, start; take */
-#define LERNAZHUP_TOOLONG 2u   /* report longer than 127              write */
-#define LERNAZHUP_NOROOM 3u    /* lent buffer too short               write, read, take */
-#define LERNAZHUP_RUNOUT 4u    /* chips run out                       read, finish; take */
-#define LERNAZHUP_NOCHIP 5u    /* byte that isn't a chip              read, push; take */
-#define LERNAZHUP_LOST 6u      /* symbol lost                         read, push; take */
-#define LERNAZHUP_PREAMBLE 7u  /* preamble not zero                   read, push; take */
-#define LERNAZHUP_BADSTART 8u  /* wrong start octet                   read, push; take */
-#define LERNAZHUP_RESERVED 9u  /* reserved bit set                    read, push; take */
-#define LERNAZHUP_ENDED 10u    /* receiver already ended              push, finish */
-#define LERNAZHUP_BADPART 11u  /* part isn't exactly one symbol long  push */
-#define LERNAZHUP_NOTENDED 12u /* receiver not ended yet              take */
-#define LERNAZHUP_MORE 13u     /* more wanted (no refusal)            start, push */
-#define LERNAZHUP_FORGED 34u   /* record that these calls don't make  push, finish, take */
-/* "; take": take repeats the number of a record that ended with it. A lost symbol is one that no
- * code word is near enough to; the reserved bit is the top bit of the length octet. */
+#define LERNAZHUP_DONE 0u      /* done                                   write, read, push, take */
+#define LERNAZHUP_BADMODE 1u   /* mode above 2                           write, read, start; take */
+#define LERNAZHUP_TOOLONG 2u   /* report longer than 127 (checked: 125)  write */
+#define LERNAZHUP_NOROOM 3u    /* lent buffer too short                  write, read, take */
+#define LERNAZHUP_RUNOUT 4u    /* chips run out                          read, finish; take */
+#define LERNAZHUP_NOCHIP 5u    /* byte that isn't a chip                 read, push; take */
+#define LERNAZHUP_LOST 6u      /* symbol lost                            read, push; take */
+#define LERNAZHUP_PREAMBLE 7u  /* preamble not zero                      read, push; take */
+#define LERNAZHUP_BADSTART 8u  /* wrong start octet                      read, push; take */
+#define LERNAZHUP_RESERVED 9u  /* reserved bit set                       read, push; take */
+#define LERNAZHUP_ENDED 10u    /* receiver already ended                 push, finish */
+#define LERNAZHUP_BADPART 11u  /* part isn't exactly one symbol long     push */
+#define LERNAZHUP_NOTENDED 12u /* receiver not ended yet                 take */
+#define LERNAZHUP_MORE 13u     /* more wanted (no refusal)               start, push */
+#define LERNAZHUP_TOOFEW 14u   /* too few octets                         write, read, check */
+#define LERNAZHUP_BADCHECK 15u /* wrong FCS                              read, check */
+#define LERNAZHUP_ALLZERO 16u  /* every octet 0                          write, read, check */
+#define LERNAZHUP_FORGED 34u   /* record that these calls don't make     push, finish, take */
+/* "write" and "read" stand for write_checked and read_checked as well, and from LERNAZHUP_TOOFEW to
+ * LERNAZHUP_ALLZERO for these alone. Check gives LERNAZHUP_DONE, too. "; take": take repeats the
+ * number of a record that ended with it. A lost symbol is one that no code word is near enough to;
+ * the reserved bit is the top bit of the length octet. */
 
-/* Sizes: the octets of the longest report; in each mode the chips of a symbol, how many of them may
- * be wrong, and the chips of the longest frame; the largest of these over all modes. */
+/* Sizes: the octets of the longest report, and of the longest that the FCS can be appended to; in
+ * each mode the chips of a symbol, how many of them may be wrong, and the chips of the longest
+ * frame; the largest of these over all modes. */
 #define LERNAZHUP_REPORT_MAX 127
+#define LERNAZHUP_CHECKED_MAX 125
 #define LERNAZHUP_SYMBOL_MODE0 15
 #define LERNAZHUP_SYMBOL_MODE1 32
 #define LERNAZHUP_SYMBOL_MODE2 16
@@ -113,13 +139,13 @@ extern "C" {
                       LERNAZHUP_ACCEPTED_MODE2)
 #define LERNAZHUP_FRAME_CHIPS(mode, n) (LERNAZHUP_BY_MODE(mode, 120, 64, 32) * (6u + (n)))
 
-/* What the writer gives back. */
+/* What the writers give back. */
 typedef struct {
     uint32_t number; /* LERNAZHUP_DONE or the refusal */
     uint32_t chips;  /* chips written; 0 on a refusal */
 } lernazhup_written;
 
-/* What the reader and take give back. */
+/* What the readers and take give back. */
 typedef struct {
     uint32_t number; /* LERNAZHUP_DONE or the refusal */
     uint32_t place;  /* done: symbols in the frame; refused: the number of the symbol where the
@@ -173,6 +199,36 @@ lernazhup_written lernazhup_write(uint32_t mode, const uint8_t *report, size_t r
 lernazhup_reading lernazhup_read(uint32_t mode, const uint8_t *chips, size_t chips_len,
                                  uint8_t *report, size_t report_len);
 
+/* Writes the frame of a report with its FCS appended, which is that of report_len + 2 octets.
+ * Done: as lernazhup_write.
+ * Refused: LERNAZHUP_BADMODE, LERNAZHUP_TOOFEW for an empty report, LERNAZHUP_TOOLONG for one above
+ * LERNAZHUP_CHECKED_MAX octets, LERNAZHUP_ALLZERO and LERNAZHUP_NOROOM, tested in that order; the
+ * buffer stays as it was. */
+lernazhup_written lernazhup_write_checked(uint32_t mode, const uint8_t *report, size_t report_len,
+                                          uint8_t *chips, size_t chips_len);
+
+/* Reads as lernazhup_read does, and stores the report where it passes lernazhup_check.
+ * Done: as lernazhup_read. The two octets of the FCS are the report's last, counted in n and
+ * stored: what was given to the writer is the first n - 2.
+ * Refused: as lernazhup_read, LERNAZHUP_NOROOM at its place there; only when that has read the
+ * frame, what lernazhup_check answers, with the frame's number of symbols as place. The report
+ * buffer stays as it was. */
+lernazhup_reading lernazhup_read_checked(uint32_t mode, const uint8_t *chips, size_t chips_len,
+                                         uint8_t *report, size_t report_len);
+
+/* Whether a report that was read passes: LERNAZHUP_TOOFEW where it has fewer than 3 octets,
+ * LERNAZHUP_BADCHECK where the last two aren't the FCS of those before them, LERNAZHUP_ALLZERO
+ * where they are and every octet is 0, tested in that order; else LERNAZHUP_DONE. One that doesn't
+ * pass is to be thrown away, whatever it says. */
+uint32_t lernazhup_check(const uint8_t *octets, size_t octets_len);
+
+/* The FCS of octets, however many: a number below 65,536, and 0 for none. The polynomial is the
+ * ITU-T's, x^16 + x^12 + x^5 + 1, the start value 0, and each octet's lowest bit goes first; in a
+ * report the FCS's low octet goes first. Two ways to one number: by a table of 256 entries, and bit
+ * by bit as the standard has it, which is slower. */
+uint32_t lernazhup_fcs(const uint8_t *octets, size_t octets_len);
+uint32_t lernazhup_fcs_bitwise(const uint8_t *octets, size_t octets_len);
+
 /* A record for a mode, and LERNAZHUP_MORE. A mode that no radio has: a record that has ended with
  * LERNAZHUP_BADMODE, and that number. */
 lernazhup_step lernazhup_start(uint32_t mode);
@@ -190,8 +246,8 @@ lernazhup_step lernazhup_push(lernazhup_receiver receiver, const uint8_t *part, 
 lernazhup_step lernazhup_finish(lernazhup_receiver receiver);
 
 /* What a record has come to. It can be asked again.
- * Done: what the reader gives back, with the report at the front of the buffer; later bytes keep
- * their values.
+ * Done: what lernazhup_read gives back, with the report at the front of the buffer; later bytes
+ * keep their values. Whether the report passes is for lernazhup_check to say.
  * LERNAZHUP_FORGED and LERNAZHUP_NOTENDED come with place 0; the number of the refusal that ended
  * the record comes with its place; LERNAZHUP_NOROOM comes with the frame's number of symbols as
  * place. The buffer then stays as it was. */

@@ -7,7 +7,7 @@ const char *lernazhup_meaning(uint32_t number)
     switch (number) {
     case LERNAZHUP_DONE: return "done";
     case LERNAZHUP_BADMODE: return "mode above 2";
-    case LERNAZHUP_TOOLONG: return "report longer than 127";
+    case LERNAZHUP_TOOLONG: return "report longer than 127 (checked: 125)";
     case LERNAZHUP_NOROOM: return "lent buffer too short";
     case LERNAZHUP_RUNOUT: return "chips run out";
     case LERNAZHUP_NOCHIP: return "byte that isn't a chip";
@@ -19,6 +19,9 @@ const char *lernazhup_meaning(uint32_t number)
     case LERNAZHUP_BADPART: return "part isn't exactly one symbol long";
     case LERNAZHUP_NOTENDED: return "receiver not ended yet";
     case LERNAZHUP_MORE: return "more wanted (no refusal)";
+    case LERNAZHUP_TOOFEW: return "too few octets";
+    case LERNAZHUP_BADCHECK: return "wrong FCS";
+    case LERNAZHUP_ALLZERO: return "every octet 0";
     case LERNAZHUP_FORGED: return "record that these calls don't make";
     default: return "not a number that these calls give";
     }

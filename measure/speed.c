@@ -5,11 +5,13 @@
  * Each repetition times every contestant once, in turn, and the next repetition begins one
  * contestant later: whatever else the machine is doing then falls on all of them alike. A
  * contestant works through 32 different frames of 127 octets, so that no processor knows them by
- * heart. In the noisy frames each symbol has a random number of wrong chips, from none to as many
- * as its radio accepts. Time is the processor's time of this thread, so that being set aside for
- * another program isn't counted. Every answer is checked before anything is timed, and the sum of
- * the answers each time after that; a wrong one ends the program with 1. A figure that was missed
- * is only said, since it depends on the machine. */
+ * heart; their reports end in the right FCS, so that the checked reader reads them, too. In the
+ * noisy frames each symbol has a random number of wrong chips, from none to as many as its radio
+ * accepts. An FCS is worked out of 127 other octets, and so often that it can be timed. Time is the
+ * processor's time of this thread, so that being set aside for another program isn't counted. Every
+ * answer is checked before anything is timed, and the sum of the answers each time after that; a
+ * wrong one ends the program with 1. A figure that was missed is only said, since it depends on the
+ * machine. */
 #define _POSIX_C_SOURCE 199309L
 #include <stdio.h>
 #include <stdlib.h>
@@ -19,25 +21,28 @@
 #include "baselines.h"
 
 enum { MODES = 3, FRAMES = 32, OCTETS = LERNAZHUP_REPORT_MAX, LEAST_REPETITIONS = 51, MOST_REPETITIONS = 2001, WARM_UP = 3 };
+enum { NO_RADIO = MODES, FCS_ROUNDS = 16 };
 
 typedef lernazhup_reading reader(uint32_t, const uint8_t *, size_t, uint8_t *, size_t);
 typedef lernazhup_written writer(uint32_t, const uint8_t *, size_t, uint8_t *, size_t);
 typedef lernazhup_step pusher(lernazhup_receiver, const uint8_t *, size_t);
+typedef uint32_t checker(const uint8_t *, size_t);
 
-static uint8_t reports[FRAMES][OCTETS];
+static uint8_t reports[FRAMES][OCTETS], unsealed[FRAMES][OCTETS];
 static uint8_t clean[MODES][FRAMES][LERNAZHUP_CHIPS_MAX];
 static uint8_t noisy[MODES][FRAMES][LERNAZHUP_CHIPS_MAX];
 static uint32_t wrong_chips[MODES][FRAMES];
 
 struct contestant {
     const char *name;
-    reader *read;  /* one of the two is null */
+    reader *read;  /* one of the three isn't null */
     writer *write;
+    checker *fcs;
     int with_noise;
     int reads;     /* whether the answer is a reading's, to be checked */
-    uint32_t mode;
+    uint32_t mode; /* NO_RADIO of an FCS */
     uint32_t expected; /* what the work gives back */
-    double ns[MOST_REPETITIONS]; /* a chip, one for each repetition */
+    double ns[MOST_REPETITIONS]; /* a chip, or an octet of an FCS, one for each repetition */
 };
 
 /* Chips of the longest frame. */
@@ -90,10 +95,15 @@ static void make_frame(uint32_t mode, size_t frame)
 static void make_frames(void)
 {
     size_t frame, i;
-    uint32_t mode;
+    uint32_t mode, fcs;
     for (frame = 0; frame < FRAMES; frame++) {
-        for (i = 0; i < OCTETS; i++)
+        for (i = 0; i < OCTETS; i++) {
             reports[frame][i] = (uint8_t)random_number();
+            unsealed[frame][i] = (uint8_t)random_number();
+        }
+        fcs = usual_fcs(reports[frame], OCTETS - 2);
+        reports[frame][OCTETS - 2] = (uint8_t)fcs;
+        reports[frame][OCTETS - 1] = (uint8_t)(fcs >> 8);
         for (mode = 0; mode < MODES; mode++)
             make_frame(mode, frame);
     }
@@ -124,7 +134,9 @@ static lernazhup_reading handing_read(uint32_t mode, const uint8_t *chips, size_
 }
 
 static struct contestant contestants[] = {
-#define ONE(name, read, write, with_noise, mode) {name, read, write, with_noise, read != handing_read, mode, 0, {0}}
+#define ONE(name, read, write, with_noise, mode) \
+    {name, read, write, NULL, with_noise, read != handing_read, mode, 0, {0}}
+#define FCS(name, fcs) {name, NULL, NULL, fcs, 0, 1, NO_RADIO, 0, {0}}
 #define EACH(name, read, write, with_noise) \
     ONE(name, read, write, with_noise, 0), ONE(name, read, write, with_noise, 1), ONE(name, read, write, with_noise, 2)
     EACH("lernazhup_read", lernazhup_read, NULL, 1),
@@ -132,6 +144,7 @@ static struct contestant contestants[] = {
     EACH("usual_read, own popcount", usual_own_read, NULL, 1),
     EACH("lernazhup_read, no errors", lernazhup_read, NULL, 0),
     EACH("usual_read, no errors", usual_read, NULL, 0),
+    EACH("lernazhup_read_checked", lernazhup_read_checked, NULL, 1),
     EACH("lernazhup_write", NULL, lernazhup_write, 0),
     EACH("copying_write", NULL, copying_write, 0),
     EACH("receiver", stepping_read, NULL, 1),
@@ -139,6 +152,9 @@ static struct contestant contestants[] = {
     EACH("record handed on", handing_read, NULL, 0),
     EACH("best_read", best_read, NULL, 1),
     EACH("best_read, no errors", best_read, NULL, 0),
+    FCS("lernazhup_fcs", lernazhup_fcs),
+    FCS("usual_fcs", usual_fcs),
+#undef FCS
 #undef EACH
 #undef ONE
 };
@@ -169,12 +185,31 @@ static void check_writer(const struct contestant *contestant, size_t frame)
         wrong(contestant->name, mode);
 }
 
+/* Bit by bit it is another way to the same number. */
+static void check_fcs(const struct contestant *contestant, size_t frame)
+{
+    if (contestant->fcs(unsealed[frame], OCTETS) != lernazhup_fcs_bitwise(unsealed[frame], OCTETS))
+        wrong(contestant->name, contestant->mode);
+}
+
+static uint32_t fcs_work(checker *fcs)
+{
+    uint32_t sum = 0;
+    size_t round, frame;
+    for (round = 0; round < FCS_ROUNDS; round++)
+        for (frame = 0; frame < FRAMES; frame++)
+            sum += fcs(unsealed[frame], OCTETS);
+    return sum;
+}
+
 /* The work that is timed. The sum of the answers is given back so that none can be left out. */
 static uint32_t work(const struct contestant *contestant)
 {
     static uint8_t chips[LERNAZHUP_CHIPS_MAX], report[OCTETS];
     uint32_t mode = contestant->mode, sum = 0;
     size_t frame;
+    if (contestant->fcs != NULL)
+        return fcs_work(contestant->fcs);
     if (contestant->read != NULL)
         for (frame = 0; frame < FRAMES; frame++)
             sum += contestant->read(mode, chips_for(contestant, frame), frame_chips(mode), report, OCTETS).count;
@@ -190,7 +225,9 @@ static void check(struct contestant *contestant)
     for (frame = 0; frame < FRAMES; frame++) {
         if (!contestant->reads)
             continue;
-        if (contestant->read != NULL)
+        if (contestant->fcs != NULL)
+            check_fcs(contestant, frame);
+        else if (contestant->read != NULL)
             check_reader(contestant, frame);
         else
             check_writer(contestant, frame);
@@ -211,7 +248,13 @@ static void fetch(const struct contestant *contestant)
     }
 }
 
-/* Nanoseconds a chip. */
+/* Chips of a frame, or octets of an FCS. */
+static double frame_units(uint32_t mode)
+{
+    return mode == NO_RADIO ? OCTETS : (double)frame_chips(mode);
+}
+
+/* Nanoseconds a unit. */
 static double timed(const struct contestant *contestant)
 {
     struct timespec before, after;
@@ -223,7 +266,7 @@ static double timed(const struct contestant *contestant)
     if (sum != contestant->expected)
         wrong(contestant->name, contestant->mode);
     return ((double)(after.tv_sec - before.tv_sec) * 1e9 + (double)(after.tv_nsec - before.tv_nsec)) /
-           (double)(FRAMES * frame_chips(contestant->mode));
+           (frame_units(contestant->mode) * FRAMES * (contestant->fcs != NULL ? FCS_ROUNDS : 1));
 }
 
 static void measure(int repetitions)
@@ -282,24 +325,28 @@ static void summarise(const struct contestant *contestant, const struct contesta
     *median = sorted[repetitions / 2];
 }
 
+static const char *const mode_names[MODES + 1] = {"0", "1", "2", "-"};
+
 static void print_times(int repetitions)
 {
     double least, median;
     uint32_t mode;
     int i;
-    printf("| mode | contestant | ns a chip | least | frames a second |\n|---|---|---|---|---|\n");
-    for (mode = 0; mode < MODES; mode++)
+    printf("| mode | contestant | ns a chip, of an FCS an octet | least | frames a second |\n");
+    printf("|---|---|---|---|---|\n");
+    for (mode = 0; mode <= NO_RADIO; mode++)
         for (i = 0; i < CONTESTANTS; i++)
             if (contestants[i].mode == mode) {
                 summarise(&contestants[i], NULL, repetitions, &least, &median);
-                printf("| %u | %s | %.4f | %.4f | %.0f |\n", (unsigned)mode, contestants[i].name, median, least,
-                       1e9 / (median * (double)frame_chips(mode)));
+                printf("| %s | %s | %.4f | %.4f | ", mode_names[mode], contestants[i].name, median,
+                       least);
+                printf("%.0f |\n", 1e9 / (median * frame_units(mode)));
             }
 }
 
 struct ratio {
     const char *name, *against;
-    double targets[MODES]; /* 0 is none */
+    double targets[MODES + 1]; /* 0 is none */
 };
 
 static void print_ratio(const struct ratio *ratio, uint32_t mode, int repetitions)
@@ -311,7 +358,8 @@ static void print_ratio(const struct ratio *ratio, uint32_t mode, int repetition
     summarise(a, NULL, repetitions, &least_a, &unused);
     summarise(b, NULL, repetitions, &least_b, &unused);
     summarise(a, b, repetitions, &unused, &median);
-    printf("| %u | %s over %s | %.3f | %.3f |", (unsigned)mode, a->name, b->name, median, least_a / least_b);
+    printf("| %s | %s over %s | ", mode_names[mode], a->name, b->name);
+    printf("%.3f | %.3f |", median, least_a / least_b);
     if (target > 0)
         printf(" at most %.2f | %s |\n", target, median <= target ? "met" : "missed");
     else
@@ -321,11 +369,13 @@ static void print_ratio(const struct ratio *ratio, uint32_t mode, int repetition
 static void print_ratios(int repetitions)
 {
     static const struct ratio ratios[] = {
-        {"lernazhup_read", "usual_read", {0.35, 0.28, 0.40}},
+        {"lernazhup_read", "usual_read", {0.35, 0.28, 0.40, 0}},
         {"lernazhup_read", "usual_read, own popcount", {0}},
-        {"lernazhup_write", "copying_write", {0.8, 1.5, 1.8}},
-        {"receiver", "lernazhup_read", {3.0, 3.0, 0}},
-        {"receiver", "record handed on", {0, 1.6, 0}},
+        {"lernazhup_read_checked", "lernazhup_read", {1.15, 1.15, 1.15, 0}},
+        {"lernazhup_fcs", "usual_fcs", {0, 0, 0, 1.3}},
+        {"lernazhup_write", "copying_write", {0.8, 1.5, 1.8, 0}},
+        {"receiver", "lernazhup_read", {3.0, 3.0, 0, 0}},
+        {"receiver", "record handed on", {0, 1.6, 0, 0}},
         {"record handed on", "lernazhup_read", {0}},
         {"lernazhup_read, no errors", "usual_read, no errors", {0}},
         {"lernazhup_read", "best_read", {0}},
@@ -336,7 +386,7 @@ static void print_ratios(int repetitions)
     printf("\n| mode | ratio | median of the ratios | ratio of the least times | target for the median | |\n");
     printf("|---|---|---|---|---|---|\n");
     for (i = 0; i < sizeof ratios / sizeof ratios[0]; i++)
-        for (mode = 0; mode < MODES; mode++)
+        for (mode = 0; mode <= NO_RADIO; mode++)
             print_ratio(&ratios[i], mode, repetitions);
 }
 

@@ -15,8 +15,14 @@
 #include "lernazhup.h"
 
 enum { MODES = 3, LIMIT = 4096, STACK = 65536, OCTETS = LERNAZHUP_REPORT_MAX };
-enum { WRITE, READ, START, PUSH, FINISH, TAKE, CALLS };
-static const char *const names[CALLS] = {"write", "read", "start", "push", "finish", "take"};
+enum {
+    WRITE, READ, START, PUSH, FINISH, TAKE,
+    WRITE_CHECKED, READ_CHECKED, CHECK, FCS, FCS_BITWISE, CALLS
+};
+static const char *const names[CALLS] = {
+    "write", "read", "start", "push", "finish", "take",
+    "write_checked", "read_checked", "check", "fcs", "fcs_bitwise",
+};
 
 /* Chips of the longest frame. */
 static size_t frame_chips(uint32_t mode)
@@ -32,6 +38,11 @@ struct calls {
     __typeof__(lernazhup_push) *push;
     __typeof__(lernazhup_finish) *finish;
     __typeof__(lernazhup_take) *take;
+    __typeof__(lernazhup_write_checked) *write_checked;
+    __typeof__(lernazhup_read_checked) *read_checked;
+    __typeof__(lernazhup_check) *check;
+    __typeof__(lernazhup_fcs) *fcs;
+    __typeof__(lernazhup_fcs_bitwise) *fcs_bitwise;
 };
 
 static uint8_t report[OCTETS + 1], chips[LERNAZHUP_CHIPS_MAX];
@@ -44,6 +55,7 @@ static struct {
 static lernazhup_written written;
 static lernazhup_reading reading;
 static lernazhup_step step;
+static uint32_t answer;
 
 static lernazhup_written empty_write(uint32_t mode, const uint8_t *from, size_t from_len, uint8_t *to, size_t to_len)
 {
@@ -81,9 +93,21 @@ static lernazhup_reading empty_take(lernazhup_receiver receiver, uint8_t *to, si
     return reading;
 }
 
-static const struct calls library = {lernazhup_write, lernazhup_read,   lernazhup_start,
-                                     lernazhup_push,  lernazhup_finish, lernazhup_take};
-static const struct calls empty = {empty_write, empty_read, empty_start, empty_push, empty_finish, empty_take};
+static uint32_t empty_check(const uint8_t *octets, size_t octets_len)
+{
+    (void)octets, (void)octets_len;
+    return answer;
+}
+
+static const struct calls library = {
+    lernazhup_write, lernazhup_read, lernazhup_start, lernazhup_push, lernazhup_finish,
+    lernazhup_take, lernazhup_write_checked, lernazhup_read_checked, lernazhup_check,
+    lernazhup_fcs, lernazhup_fcs_bitwise,
+};
+static const struct calls empty = {
+    empty_write, empty_read, empty_start, empty_push, empty_finish, empty_take,
+    empty_write, empty_read, empty_check, empty_check, empty_check,
+};
 static const struct calls *volatile calls;
 static int current;
 
@@ -108,6 +132,22 @@ static void call(void)
         break;
     case TAKE:
         reading = calls->take(given.receiver, report, given.report_len);
+        break;
+    case WRITE_CHECKED:
+        written =
+            calls->write_checked(given.mode, report, given.report_len, chips, given.chips_len);
+        break;
+    case READ_CHECKED:
+        reading = calls->read_checked(given.mode, chips, given.chips_len, report, given.report_len);
+        break;
+    case CHECK:
+        answer = calls->check(report, given.report_len);
+        break;
+    case FCS:
+        answer = calls->fcs(report, given.report_len);
+        break;
+    case FCS_BITWISE:
+        answer = calls->fcs_bitwise(report, given.report_len);
         break;
     }
 }
@@ -166,20 +206,21 @@ static void expect(uint32_t number, uint32_t expected, int which)
     exit(1);
 }
 
-static void measure_write(uint32_t mode)
+/* By either writer, the longest report that it takes. */
+static void measure_write(int which, size_t longest, uint32_t mode)
 {
     given.mode = mode;
-    given.report_len = OCTETS + 1;
+    given.report_len = longest + 1;
     given.chips_len = frame_chips(mode);
-    note(WRITE, mode);
-    expect(written.number, LERNAZHUP_TOOLONG, WRITE);
-    given.report_len = OCTETS;
+    note(which, mode);
+    expect(written.number, LERNAZHUP_TOOLONG, which);
+    given.report_len = longest;
     given.chips_len--;
-    note(WRITE, mode);
-    expect(written.number, LERNAZHUP_NOROOM, WRITE);
+    note(which, mode);
+    expect(written.number, LERNAZHUP_NOROOM, which);
     given.chips_len++;
-    note(WRITE, mode);
-    expect(written.number, LERNAZHUP_DONE, WRITE);
+    note(which, mode);
+    expect(written.number, LERNAZHUP_DONE, which);
 }
 
 /* Inverts the first chips of every symbol of the frame, as many as are accepted. */
@@ -191,51 +232,94 @@ static void spoil(uint32_t mode)
             chips[symbol + i] ^= 1;
 }
 
-/* What the reader says when the last symbol of an octet has another value, its top bit turned. */
-static uint32_t number_for_other(size_t octet)
+/* What a reader says when the last symbol of an octet has another value, its top bit turned. */
+static uint32_t number_for_other(int which, size_t octet)
 {
-    return octet < 4 ? LERNAZHUP_PREAMBLE : octet == 4 ? LERNAZHUP_BADSTART : octet == 5 ? LERNAZHUP_RESERVED : LERNAZHUP_DONE;
+    if (octet > 5)
+        return which == READ ? LERNAZHUP_DONE : LERNAZHUP_BADCHECK;
+    return octet < 4 ? LERNAZHUP_PREAMBLE : octet == 4 ? LERNAZHUP_BADSTART : LERNAZHUP_RESERVED;
 }
 
 /* Reads with the last symbol of an octet made flat, then with a byte in it that isn't a chip, then
  * with another value, then with the chips ending in it. */
-static void measure_broken_reads(uint32_t mode, size_t octet)
+static void measure_broken_reads(int which, uint32_t mode, size_t octet)
 {
     size_t length = LERNAZHUP_SYMBOL_CHIPS(mode), at = (octet + 1) * frame_chips(mode) / (6 + OCTETS) - length, i;
     uint8_t kept[32];
     memcpy(kept, chips + at, length);
     memset(chips + at, 0, length);
-    note(READ, mode);
-    expect(reading.number, LERNAZHUP_LOST, READ);
+    note(which, mode);
+    expect(reading.number, LERNAZHUP_LOST, which);
     chips[at + length - 1] = 2;
-    note(READ, mode);
-    expect(reading.number, LERNAZHUP_NOCHIP, READ);
+    note(which, mode);
+    expect(reading.number, LERNAZHUP_NOCHIP, which);
     for (i = 0; i < length; i++) /* modes 1 and 2: chips of odd index turn the value's top bit */
         chips[at + i] = (uint8_t)(kept[i] ^ (mode == 0 || i % 2 == 1));
-    note(READ, mode);
-    expect(reading.number, number_for_other(octet), READ);
+    note(which, mode);
+    expect(reading.number, number_for_other(which, octet), which);
     memcpy(chips + at, kept, length);
     given.chips_len = at + length - 1;
-    note(READ, mode);
-    expect(reading.number, LERNAZHUP_RUNOUT, READ);
+    note(which, mode);
+    expect(reading.number, LERNAZHUP_RUNOUT, which);
     given.chips_len = frame_chips(mode);
 }
 
-static void measure_read(uint32_t mode)
+static void measure_read(int which, uint32_t mode)
 {
     size_t octet;
     given.mode = mode;
     given.chips_len = frame_chips(mode);
     given.report_len = OCTETS;
-    note(READ, mode);
-    expect(reading.number, LERNAZHUP_DONE, READ);
+    note(which, mode);
+    expect(reading.number, LERNAZHUP_DONE, which);
     for (octet = 0; octet < 7; octet++)
-        measure_broken_reads(mode, octet);
-    measure_broken_reads(mode, 6 + OCTETS - 1);
+        measure_broken_reads(which, mode, octet);
+    measure_broken_reads(which, mode, 6 + OCTETS - 1);
     given.report_len = OCTETS - 1;
-    note(READ, mode);
-    expect(reading.number, LERNAZHUP_NOROOM, READ);
+    note(which, mode);
+    expect(reading.number, LERNAZHUP_NOROOM, which);
     given.report_len = OCTETS;
+}
+
+/* The calls on octets alone: a report that passes, then one that doesn't. */
+static void measure_check(uint32_t mode)
+{
+    given.report_len = OCTETS - 2;
+    note(FCS, mode);
+    expect(answer, report[OCTETS - 2] + 256u * report[OCTETS - 1], FCS);
+    note(FCS_BITWISE, mode);
+    expect(answer, report[OCTETS - 2] + 256u * report[OCTETS - 1], FCS_BITWISE);
+    given.report_len = OCTETS;
+    note(CHECK, mode);
+    expect(answer, LERNAZHUP_DONE, CHECK);
+    report[0] ^= 1;
+    note(CHECK, mode);
+    expect(answer, LERNAZHUP_BADCHECK, CHECK);
+    memset(report, 0, sizeof report);
+    note(CHECK, mode);
+    expect(answer, LERNAZHUP_ALLZERO, CHECK);
+    given.report_len = 2;
+    note(CHECK, mode);
+    expect(answer, LERNAZHUP_TOOFEW, CHECK);
+}
+
+/* What the checked writer and reader refuse for themselves, of zeros and of nothing. */
+static void measure_zeros(uint32_t mode)
+{
+    memset(report, 0, sizeof report);
+    given.report_len = LERNAZHUP_CHECKED_MAX;
+    note(WRITE_CHECKED, mode);
+    expect(written.number, LERNAZHUP_ALLZERO, WRITE_CHECKED);
+    given.report_len = 0;
+    note(WRITE_CHECKED, mode);
+    expect(written.number, LERNAZHUP_TOOFEW, WRITE_CHECKED);
+    lernazhup_write(mode, report, 0, chips, sizeof chips);
+    note(READ_CHECKED, mode);
+    expect(reading.number, LERNAZHUP_TOOFEW, READ_CHECKED);
+    lernazhup_write(mode, report, OCTETS, chips, sizeof chips);
+    given.report_len = OCTETS;
+    note(READ_CHECKED, mode);
+    expect(reading.number, LERNAZHUP_ALLZERO, READ_CHECKED);
 }
 
 /* Pushes, finishes and takes of the record in hand that are refused. */
@@ -301,6 +385,11 @@ static void measure_no_radio(void)
     given.mode = MODES;
     note(WRITE, MODES);
     note(READ, MODES);
+    note(WRITE_CHECKED, MODES);
+    note(READ_CHECKED, MODES);
+    note(CHECK, MODES);
+    note(FCS, MODES);
+    note(FCS_BITWISE, MODES);
     note(START, MODES);
     expect(step.number, LERNAZHUP_BADMODE, START);
     given.receiver = step.receiver;
@@ -313,7 +402,8 @@ static void measure_no_radio(void)
 static int print_table(void)
 {
     int which, column, exceeded = 0;
-    printf("| call | bytes of stack beyond an empty call, mode 0 | mode 1 | mode 2 | no radio |\n|---|---|---|---|---|\n");
+    printf("| call | bytes of stack beyond an empty call, mode 0 | mode 1 | mode 2 | no radio |\n");
+    printf("|---|---|---|---|---|\n");
     for (which = 0; which < CALLS; which++) {
         printf("| %s |", names[which]);
         for (column = 0; column <= MODES; column++) {
@@ -331,10 +421,16 @@ int main(void)
     uint32_t mode;
     for (mode = 0; mode < MODES; mode++) {
         memset(report, 0x53, sizeof report);
-        measure_write(mode);
+        measure_write(WRITE, OCTETS, mode);
         spoil(mode);
-        measure_read(mode);
+        measure_read(READ, mode);
         measure_receiver(mode);
+        memset(report, 0x53, sizeof report);
+        measure_write(WRITE_CHECKED, LERNAZHUP_CHECKED_MAX, mode);
+        spoil(mode);
+        measure_read(READ_CHECKED, mode);
+        measure_check(mode);
+        measure_zeros(mode);
     }
     measure_no_radio();
     return print_table();

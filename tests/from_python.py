@@ -35,6 +35,11 @@ def load(path):
     for name, result, arguments in [
         ("write", Written, [U32, BYTES, SIZE, BYTES, SIZE]),
         ("read", Reading, [U32, BYTES, SIZE, BYTES, SIZE]),
+        ("write_checked", Written, [U32, BYTES, SIZE, BYTES, SIZE]),
+        ("read_checked", Reading, [U32, BYTES, SIZE, BYTES, SIZE]),
+        ("check", U32, [BYTES, SIZE]),
+        ("fcs", U32, [BYTES, SIZE]),
+        ("fcs_bitwise", U32, [BYTES, SIZE]),
         ("start", Step, [U32]),
         ("push", Step, [Receiver, BYTES, SIZE]),
         ("finish", Step, [Receiver]),
@@ -79,10 +84,21 @@ def main():
             step = library.lernazhup_push(step.receiver, (U8 * size)(*chips[at : at + size]), size)
         check("take", values(library.lernazhup_take(step.receiver, back, 127)), answer)
         check("finish", library.lernazhup_finish(step.receiver).number, 10)
+        longer = (U8 * ((symbols + 2 * octet) * size))()
+        written = library.lernazhup_write_checked(mode, report, len(text), longer, len(longer))
+        check("write_checked", values(written), (0, len(longer)))
+        reading = library.lernazhup_read_checked(mode, longer, len(longer), back, 127)
+        check("read_checked", values(reading), (0, symbols + 2 * octet, len(text) + 2, 0))
+        check("its report", bytes(back[: len(text) + 2]), text + b"\xb5\xc0")
+        check("check", library.lernazhup_check(back, len(text) + 2), 0)
+        reading = library.lernazhup_read_checked(mode, chips, len(chips), back, 127)
+        check("read_checked without an FCS", values(reading), (15, symbols, 0, 0))
         flat = (U8 * len(chips))()
         reading = library.lernazhup_read(mode, flat, len(flat), back, 127)
         check("flat chips", values(reading), (6, 0, 0, 0))
         check("their meaning", library.lernazhup_meaning(reading.number), b"symbol lost")
+    check("fcs", library.lernazhup_fcs(report, len(text)), 0xC0B5)
+    check("fcs_bitwise", library.lernazhup_fcs_bitwise(report, len(text)), 0xC0B5)
     check("version", library.lernazhup_version().decode(), sys.argv[2])
     return failed != 0
 

@@ -39,6 +39,19 @@ static void frames(uint32_t mode)
     }
 }
 
+/* The longest report that the FCS can be appended to fills a frame, and one more has no place. */
+static void checked(uint32_t mode)
+{
+    size_t longest = LERNAZHUP_CHECKED_MAX;
+    memset(report, 1, sizeof report);
+    check("chips of the longest checked frame",
+          lernazhup_write_checked(mode, report, longest, chips, sizeof chips).chips,
+          LERNAZHUP_FRAME_CHIPS(mode, LERNAZHUP_REPORT_MAX));
+    check("one octet more",
+          lernazhup_write_checked(mode, report, longest + 1, chips, sizeof chips).number,
+          LERNAZHUP_TOOLONG);
+}
+
 /* The first symbol with so many chips wrong. */
 static uint32_t damaged(uint32_t mode, unsigned many)
 {
@@ -91,6 +104,7 @@ int main(void)
     char text[32] = "";
     for (mode = 0; mode < MODES; mode++) {
         frames(mode);
+        checked(mode);
         symbols(mode);
         lernazhup_write(mode, report, 5, chips, sizeof chips);
         kept(mode, LERNAZHUP_FRAME_CHIPS(mode, 5));

@@ -108,6 +108,25 @@ static void made_by_the_library(uint32_t mode, size_t length)
     check("report", (unsigned long)memcmp(back, report, sizeof report), 0);
 }
 
+/* The structs of the checked calls: the same, with the FCS of five octets behind them. */
+static void checked_by_the_library(uint32_t mode, size_t length)
+{
+    static const uint8_t report[7] = {0x12, 0x34, 0x56, 0x78, 0x9A, 0x3B, 0xCC};
+    uint8_t chips[832], back[LERNAZHUP_REPORT_MAX];
+    lernazhup_written written = lernazhup_write_checked(mode, report, 5, chips, length);
+    call = "write_checked";
+    check("number", written.number, LERNAZHUP_DONE);
+    check("chips", written.chips, length);
+    written = lernazhup_write_checked(mode, report, 5, chips, length - 1);
+    check("number of a refusal", written.number, LERNAZHUP_NOROOM);
+    check("chips of a refusal", written.chips, 0);
+    chips[0] ^= 1;
+    call = "read_checked";
+    check_reading(lernazhup_read_checked(mode, chips, length, back, sizeof back), LERNAZHUP_DONE,
+                  26, 7, 1);
+    check("report", (unsigned long)memcmp(back, report, sizeof report), 0);
+}
+
 static void given_back(void)
 {
     uint8_t part[LERNAZHUP_SYMBOL_MAX] = {0};
@@ -134,6 +153,8 @@ int main(void)
     given_back();
     made_by_the_library(1, 704);
     made_by_the_library(2, 352);
+    checked_by_the_library(1, 832);
+    checked_by_the_library(2, 416);
     printf("fields: %d values carried, %d wrong\n", passed + failed, failed);
     return failed != 0;
 }

@@ -1,7 +1,7 @@
-/* Writings, readings and records, run over the archive and printed, a line each, to be compared
- * with tests/vectors.said. Those lines were worked out from the rules of the scope by a model
- * that is not kept here, and not by this code (what a receiver holds between symbols, which the
- * document doesn't say, from the definition).
+/* Writings, readings, checks and records, run over the archive and printed, a line each, to be
+ * compared with tests/vectors.said. Those lines were worked out from the rules of the scope by a
+ * model that is not kept here, and not by this code (what a receiver holds between symbols, which
+ * the document doesn't say, from the definition).
  *
  * Places and lengths are tested before they are used. A case that didn't fit would print no line,
  * and the comparison would show that. */
@@ -162,16 +162,22 @@ static size_t changed(const uint8_t *lent, size_t length)
     return count;
 }
 
-/* Whether the report is the one sent, and its octets. */
-static void tell(size_t n, struct slice sent, const uint8_t lent[LENT])
+static void print_octets(size_t n, const uint8_t lent[LENT])
 {
     size_t i;
-    if (n > LENT)
-        return;
-    printf(", %s [", n == sent.count && memcmp(lent, sent.first, n) == 0 ? "as sent" : "not as sent");
+    printf("[");
     for (i = 0; i < n; i++)
         printf("%02x", lent[i]);
     printf("]");
+}
+
+/* Whether the report is the one sent, and its octets. */
+static void tell(size_t n, struct slice sent, const uint8_t lent[LENT])
+{
+    if (n > LENT)
+        return;
+    printf(", %sas sent ", n == sent.count && memcmp(lent, sent.first, n) == 0 ? "" : "not ");
+    print_octets(n, lent);
 }
 
 /* The four numbers and what became of the lent buffer. The line goes on. */
@@ -477,6 +483,235 @@ static void readings_of(uint32_t mode)
     headers(mode);
 }
 
+/* ---- The checked profile ---- */
+
+static const uint8_t zeros[REPORT] = {0};
+
+/* An octet, its FCS, and the FCS of all three, which is 0. */
+static const uint8_t fcs_zero[5] = {0x01, 0x89, 0x11, 0x00, 0x00};
+
+/* Zeros but one octet. */
+static const uint8_t first_one[5] = {1}, last_one[5] = {0, 0, 0, 0, 1};
+
+/* Octets of the sample with their FCS behind them. */
+static struct slice sealed(uint8_t octets[REPORT], size_t n)
+{
+    uint32_t fcs = lernazhup_fcs(sample, n);
+    memcpy(octets, sample, n);
+    octets[n] = (uint8_t)fcs;
+    octets[n + 1] = (uint8_t)(fcs >> 8);
+    return slice(octets, n + 2);
+}
+
+/* The three calls on octets alone. */
+static void fcs_line(const char *what, struct slice octets)
+{
+    printf("%s: fcs of %zu gives %" PRIu32, what, octets.count,
+           lernazhup_fcs(octets.first, octets.count));
+    printf(", bitwise %" PRIu32 ", check %" PRIu32 "\n",
+           lernazhup_fcs_bitwise(octets.first, octets.count),
+           lernazhup_check(octets.first, octets.count));
+}
+
+/* More octets than a report has may be asked for. */
+static void sums(void)
+{
+    static uint8_t many[LONGEST];
+    size_t n;
+    memset(many, 255, LONGEST);
+    fcs_line("none", slice(NULL, 0));
+    for (n = 1; n <= 5; n++)
+        fcs_line("FCS 0", slice(fcs_zero, n));
+    for (n = 1; n <= 4; n++)
+        fcs_line("zeros", slice(zeros, n));
+    fcs_line("sample", slice(sample, 126));
+    fcs_line("sample", slice(sample, 127));
+    fcs_line("bytes 255", slice(many, LONGEST));
+}
+
+/* What the checked writer makes of a report, and the octets that a plain reader finds in it. */
+static void writing_checked(const char *what, uint32_t mode, struct slice report, size_t room)
+{
+    uint8_t chips[LONGEST], lent[LENT];
+    lernazhup_written written;
+    if (room > LONGEST)
+        return;
+    memset(chips, BEFORE, LONGEST);
+    written = lernazhup_write_checked(mode, report.first, report.count, chips, room);
+    printf("%s: write_checked %" PRIu32 " octets %zu room %zu gives ", what, mode, report.count,
+           room);
+    printf("%" PRIu32 " %" PRIu32 ", %zu changed", written.number, written.chips,
+           changed(chips, LONGEST));
+    if (written.number == LERNAZHUP_DONE) {
+        printf(", carries ");
+        print_octets(lernazhup_read(mode, chips, LONGEST, lent, LENT).n, lent);
+    }
+    printf("\n");
+}
+
+static void checked_writings_of(uint32_t mode)
+{
+    static const uint32_t octets[] = {1, 5, 125};
+    size_t k;
+    writing_checked("empty", mode, slice(NULL, 0), LONGEST);
+    writing_checked("empty, no room", mode, slice(NULL, 0), 0);
+    for (k = 0; k < sizeof octets / sizeof *octets; k++) {
+        size_t room = octet_at(mode, 8 + octets[k]);
+        writing_checked("room exact", mode, slice(sample, octets[k]), room);
+        writing_checked("room one short", mode, slice(sample, octets[k]), room - 1);
+        writing_checked("zeros", mode, slice(zeros, octets[k]), room);
+        writing_checked("zeros, no room", mode, slice(zeros, octets[k]), 0);
+    }
+    writing_checked("room left over", mode, slice(sample, 125), LONGEST);
+    writing_checked("too long", mode, slice(sample, 126), LONGEST);
+    writing_checked("too long, no room", mode, slice(sample, 126), 0);
+    writing_checked("too long, zeros", mode, slice(zeros, 126), LONGEST);
+    writing_checked("too long", mode, slice(sample, 127), LONGEST);
+    writing_checked("FCS 0", mode, slice(fcs_zero, 3), LONGEST);
+    writing_checked("zeros but the first", mode, slice(first_one, 5), LONGEST);
+    writing_checked("zeros but the last", mode, slice(last_one, 5), LONGEST);
+    writing_checked("no such mode", 256 + mode, slice(sample, 5), LONGEST);
+    writing_checked("no such mode", 65536 + mode, slice(sample, 5), LONGEST);
+}
+
+static void checked_writings_of_none(void)
+{
+    writing_checked("no such mode", MODES, slice(sample, 5), LONGEST);
+    writing_checked("no such mode", MOST, slice(sample, 5), LONGEST);
+    writing_checked("no such mode, empty, no room", MODES, slice(NULL, 0), 0);
+}
+
+/* Whether a receiver's take, and check after it, come to the same number at the same place. */
+static int checks(uint32_t mode, struct slice chips, lernazhup_reading reading)
+{
+    uint8_t octets[REPORT];
+    lernazhup_reading taken = receive(mode, chips, octets, REPORT);
+    if (taken.number == LERNAZHUP_DONE)
+        taken.number = lernazhup_check(octets, taken.n);
+    return taken.number == reading.number && taken.place == reading.place;
+}
+
+/* Reads a report's frame after its change. The plain writer sends the report as it is here. */
+static void checked_line(const char *what, struct frame frame, struct slice report)
+{
+    uint8_t chips[LONGEST], lent[LENT];
+    lernazhup_reading reading;
+    if (frame.chips > LONGEST || frame.room > LENT)
+        return;
+    memset(chips, 255, LONGEST);
+    memset(lent, BEFORE, LENT);
+    lernazhup_write(frame.written, report.first, report.count, chips, LONGEST);
+    change(frame, chips);
+    reading = lernazhup_read_checked(frame.read, chips, frame.chips, lent, frame.room);
+    printf("%s: read_checked %" PRIu32 " chips %zu room %zu gives ", what, frame.read, frame.chips,
+           frame.room);
+    answered(reading, report, lent);
+    if (frame.room == REPORT)
+        printf(", taken and checked %s",
+               checks(frame.read, slice(chips, frame.chips), reading) ? "the same" : "otherwise");
+    printf("\n");
+}
+
+/* No octets, one and two, and too little room for them, which is found before. */
+static void few(uint32_t mode)
+{
+    uint32_t n;
+    checked_line("empty", frame_of(mode, 0), slice(NULL, 0));
+    checked_line("empty, no room", with_room(frame_of(mode, 0), 0), slice(NULL, 0));
+    for (n = 1; n <= 2; n++) {
+        checked_line("few", frame_of(mode, n), slice(sample, n));
+        checked_line("few zeros", frame_of(mode, n), slice(zeros, n));
+        checked_line("few, room exact", with_room(frame_of(mode, n), n), slice(sample, n));
+        checked_line("few, room one short", with_room(frame_of(mode, n), n - 1), slice(sample, n));
+    }
+}
+
+/* Reports that pass. The first chips of each symbol are wrong, as many as may be. */
+static void passing(uint32_t mode)
+{
+    uint8_t octets[REPORT];
+    struct frame seven = frame_of(mode, 7), longest = frame_of(mode, 127);
+    size_t size = radio_of(mode).size, limit = radio_of(mode).limit;
+    checked_line("three octets", frame_of(mode, 3), slice(fcs_zero, 3));
+    checked_line("FCS 0", frame_of(mode, 5), slice(fcs_zero, 5));
+    checked_line("room exact", with_room(seven, 7), sealed(octets, 5));
+    checked_line("room one short", with_room(seven, 6), sealed(octets, 5));
+    checked_line("bytes 255 behind the frame", with_chips(seven, LONGEST), sealed(octets, 5));
+    checked_line("room exact", longest, sealed(octets, 125));
+    checked_line("room one short", with_room(longest, 126), sealed(octets, 125));
+    checked_line("room left over", with_room(longest, 200), sealed(octets, 125));
+    checked_line("at the limit", every(flip(longest, 0, limit), size), sealed(octets, 125));
+}
+
+/* The report of that many octets with an FCS that has one bit wrong. */
+static struct slice spoilt(uint8_t octets[REPORT], size_t n, size_t bit)
+{
+    struct slice report = sealed(octets, n);
+    octets[n + bit / 8] ^= (uint8_t)(1 << bit % 8);
+    return report;
+}
+
+static void wrong_checks(uint32_t mode)
+{
+    static const uint8_t high_first[3] = {0x01, 0x11, 0x89}, of_zeros[3] = {0, 0, 1};
+    uint8_t octets[REPORT];
+    struct frame seven = frame_of(mode, 7), longest = frame_of(mode, 127);
+    size_t size = radio_of(mode).size, limit = radio_of(mode).limit;
+    checked_line("high octet first", frame_of(mode, 3), slice(high_first, 3));
+    checked_line("FCS 256 of zeros", frame_of(mode, 3), slice(of_zeros, 3));
+    checked_line("without FCS", frame_of(mode, 5), slice(sample, 5));
+    checked_line("lowest bit wrong", seven, spoilt(octets, 5, 0));
+    checked_line("highest bit wrong", seven, spoilt(octets, 5, 15));
+    checked_line("wrong, room exact", with_room(seven, 7), spoilt(octets, 5, 8));
+    checked_line("wrong, room one short", with_room(seven, 6), spoilt(octets, 5, 8));
+    checked_line("wrong, room left over", with_room(longest, 200), spoilt(octets, 125, 7));
+    checked_line("wrong, at the limit", every(flip(longest, 0, limit), size),
+                 spoilt(octets, 125, 7));
+}
+
+static void all_zeros(uint32_t mode)
+{
+    static const uint32_t octets[] = {3, 5, REPORT};
+    size_t size = radio_of(mode).size, limit = radio_of(mode).limit, k;
+    for (k = 0; k < sizeof octets / sizeof *octets; k++) {
+        struct frame frame = frame_of(mode, octets[k]);
+        struct slice report = slice(zeros, octets[k]);
+        checked_line("zeros, room left over", with_room(frame, 200), report);
+        checked_line("zeros, room exact", with_room(frame, octets[k]), report);
+        checked_line("zeros, room one short", with_room(frame, octets[k] - 1), report);
+        checked_line("zeros, at the limit", every(flip(frame, 0, limit), size), report);
+    }
+}
+
+/* What the plain reader refuses stays as it is. Nine errors make a mode 0 word read as the other,
+ * and that is for the FCS to find. */
+static void plain_refusals(uint32_t mode)
+{
+    uint8_t octets[REPORT];
+    struct frame seven = frame_of(mode, 7);
+    size_t size = radio_of(mode).size, last = seven.chips - size;
+    struct slice report = sealed(octets, 5);
+    checked_line("no chips", with_chips(seven, 0), report);
+    checked_line("last symbol cut", with_chips(seven, seven.chips - 1), report);
+    checked_line("byte 2, last chip", put(seven, seven.chips - 1, 1, 2), report);
+    checked_line("flat 0 last", put(seven, last, size, 0), report);
+    checked_line("flat 1 last", put(seven, last, size, 1), report);
+    checked_line("nine errors in the last symbol", flip(seven, last, 9), report);
+    checked_line("every chip inverted", flip(seven, 0, seven.chips), report);
+    checked_line("no such mode", read_as(seven, MODES), report);
+    checked_line("no such mode", read_as(seven, 256 + mode), report);
+    checked_line("no such mode", read_as(seven, 65536 + mode), report);
+}
+
+static void checked_readings_of(uint32_t mode)
+{
+    few(mode);
+    passing(mode);
+    wrong_checks(mode);
+    all_zeros(mode);
+    plain_refusals(mode);
+}
+
 /* ---- A record, and what the calls make of it ---- */
 
 /* The fields lie side by side, as the header fixes; only behind the octets is a byte of padding. */
@@ -745,6 +980,12 @@ int main(void)
     for (mode = 0; mode < MODES; mode++)
         readings_of(mode);
     no_radio();
+    sums();
+    for (mode = 0; mode < MODES; mode++)
+        checked_writings_of(mode);
+    checked_writings_of_none();
+    for (mode = 0; mode < MODES; mode++)
+        checked_readings_of(mode);
     for (mode = 0; mode < MODES; mode++)
         records_of(mode);
     started(MODES);

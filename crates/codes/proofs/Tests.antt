@@ -16,6 +16,11 @@ pub by-test : {P : Type 0} (b : Bool) → (b ≡ true → P) → (b ≡ false �
 by-test true f g = f refl
 by-test false f g = g refl
 
+-- what is true of either side of a choice is true of the choice
+pub by-pick : {A : Type 0} (P : A → Type 0) (b : Bool) (x y : A) → (b ≡ true → P x) → (b ≡ false → P y) → P (pick b x y)
+by-pick P true x y p q = p refl
+by-pick P false x y p q = q refl
+
 pub not-both : {P : Type 0} (b : Bool) → b ≡ true → b ≡ false → P
 not-both b t f = absurd (subst (λ (x : Bool). T x) (sym t ∙ f) tt)
 

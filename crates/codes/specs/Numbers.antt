@@ -1,5 +1,5 @@
--- The numbers given back, in the order of document 01's table. `src/lib.rt` has constants of the
--- same names.
+-- The numbers given back, in the order of the scope's table. `src/lib.rt` has constants of the same
+-- names.
 use Prim.Native.Nat.{ℕ}
 
 -- done
@@ -57,6 +57,18 @@ NOTENDED = 12
 -- more wanted (no refusal)
 abbrev pub MORE : ℕ
 MORE = 13
+
+-- too few octets
+abbrev pub TOOFEW : ℕ
+TOOFEW = 14
+
+-- wrong FCS
+abbrev pub BADCHECK : ℕ
+BADCHECK = 15
+
+-- every octet 0
+abbrev pub ALLZERO : ℕ
+ALLZERO = 16
 
 -- record that these calls don't make
 abbrev pub FORGED : ℕ

@@ -51,6 +51,12 @@ pub const NOTENDED: u32 = 12;
 
 pub const MORE: u32 = 13;
 
+pub const TOOFEW: u32 = 14;
+
+pub const BADCHECK: u32 = 15;
+
+pub const ALLZERO: u32 = 16;
+
 pub const FORGED: u32 = 34;
 
 // What `gather` gives back in place of bits: all of them set, which no chips give.

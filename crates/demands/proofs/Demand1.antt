@@ -17,7 +17,9 @@ use Rattle.frame.specs.Write.{unwritten, wrote, written}
 use Rattle.reader.specs.Order.{Answer, refused, done, reading}
 use Rattle.reader.specs.Read.{told, left, answerAt, readOf}
 use Rattle.demands.specs.Words.{Placed}
-use Rattle.demands.proofs.Fair.{by-pick, refusals, Fair, answer-fair, Standing, elsewhere, answer-placed}
+use Rattle.codes.proofs.Tests.{by-pick}
+use Rattle.reader.proofs.Fair.{refusals, Fair, answer-fair}
+use Rattle.demands.proofs.Placed.{Standing, elsewhere, answer-placed}
 
 -- ---- the reader
 

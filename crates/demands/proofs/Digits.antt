@@ -11,8 +11,6 @@ use native.Mathlib.Nat.{
   mod-eq-of-lt,
   add-mul-div-left,
   div-eq-of-lt,
-  zero-mod,
-  zero-div,
   mul-comm,
   mul-zero,
 }
@@ -48,13 +46,7 @@ module _ (base : ℕ) (pos : 0 < base) where
   value-below (b ∷ bs) p =
       omega (arith, digits-lt (value-below bs (p .1)) (p .0), pow-suc base (length bs), mul-comm base (valueOf base bs))
 
--- the digits of 0 are 0
-pub digits-nought : (k base : ℕ) → Below 1 (digits k base 0)
-unfolding digits
-digits-nought zero base = tt
-digits-nought (suc k) base = (omega (arith, zero-mod base), rw (zero-div base) (digits-nought k base))
-
--- and make 0
+-- digits that are 0 make 0
 pub value-nought : (base : ℕ) (bs : List ℕ) → Below 1 bs → valueOf base bs ≡ 0
 unfolding valueOf
 value-nought base [] p = refl

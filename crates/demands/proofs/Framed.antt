@@ -11,13 +11,12 @@ use borrow.Author.Tests.{eq-eqb, ne-eqb}
 use Rattle.codes.specs.Numbers.{DONE, MORE}
 use Rattle.codes.specs.Radio.{Radio, Sound}
 use Rattle.frame.specs.Frame.{startOctet, octets, perOctet, rawOf, raws}
-use Rattle.frame.proofs.Count.{raws-long}
+use Rattle.frame.proofs.Count.{digits-nought, raws-long}
 use Rattle.frame.proofs.Below.{Below, below-append, at-below, below-at}
 use Rattle.frame.proofs.Parts.{before}
 use Rattle.reader.specs.Received.{octetAt, octetsFrom}
 use Rattle.reader.specs.Order.{verdict, reportIn}
 use Rattle.demands.specs.Words.{Report}
-use Rattle.demands.proofs.Digits.{digits-nought}
 use Rattle.demands.proofs.Octet.{octets-raws, octet-take}
 use Rattle.reader.proofs.Rules.{Clear, clear-rules}
 
@@ -38,7 +37,7 @@ module _ (r : Radio) (S : Sound r) (report : List ℕ) (R : Report report) where
       (omega arith, (omega arith, (omega arith, (omega arith, (omega arith, (omega (arith, R .short), at-below 256 report (R .octets)))))))
 
   -- the octets from the first on
-  again : octetsFrom r 0 (length (octets report)) all ≡ octets report
+  pub again : octetsFrom r 0 (length (octets report)) all ≡ octets report
   again = octets-raws r S (octets report) octets-below
 
   -- octet 4 is the start octet

@@ -13,7 +13,7 @@ use Rattle.codes.specs.Chips.{pick, among, bad}
 use Rattle.codes.specs.Radio.{Radio, known, radioOf}
 use Rattle.codes.specs.Symbol.{valued, symbolOf}
 use Rattle.codes.specs.declared.Symbol.{Symbol}
-use Rattle.codes.proofs.Tests.{by-test, not-both}
+use Rattle.codes.proofs.Tests.{by-pick, by-test, not-both}
 use Rattle.frame.specs.Frame.{startOctet, perOctet}
 use Rattle.reader.specs.declared.Hand.{Hand}
 use Rattle.reader.specs.Order.{Answer, refused, done, both, ends, rules}
@@ -24,7 +24,6 @@ use Rattle.receiver.specs.declared.Receiver.{Receiver}
 use Rattle.receiver.specs.declared.Step.{Step}
 use Rattle.receiver.specs.Record.{step, startOf, isOpen, endedWell, forged, handOf, held, tookSymbol, pushOf, endedWith, finishOf, roomFor, takes, takeOf}
 use Rattle.receiver.proofs.Ways.{passed-known}
-use Rattle.demands.proofs.Fair.{by-pick}
 use Rattle.demands.proofs.Demand1.{leaves}
 
 -- every number of a list passes a test

@@ -1,6 +1,7 @@
 -- The demands, and the laws that they stand on, leaves first. To be read are Demand1, Demand2,
 -- Demand3 and, from it, PutRight, NoFlat, OneAnswer and Reader; of the stepping receiver Stepped,
--- Stray, Forged, Holds and Given. Each opens with what it says in plain words.
+-- Stray, Forged, Holds and Given; of the checked profile Checked and Misread. Each opens with what
+-- it says in plain words.
 pub mod Digits
 pub mod Back
 pub mod Octet
@@ -13,7 +14,7 @@ pub mod Stands
 pub mod Ended
 pub mod Answered
 pub mod Close
-pub mod Fair
+pub mod Placed
 pub mod Repair
 pub mod Demand3
 pub mod PutRight
@@ -23,6 +24,9 @@ pub mod Reader
 pub mod Demand2
 pub mod Demand1
 pub mod Given
+pub mod Spread
+pub mod Checked
+pub mod Misread
 pub mod Stray
 pub mod Made
 pub mod Forged

@@ -15,7 +15,7 @@ use Rattle.codes.specs.Numbers.{DONE, BADMODE, RUNOUT, NOCHIP, LOST, PREAMBLE, 
 use Rattle.codes.specs.Chips.{among}
 use Rattle.codes.specs.Radio.{known, radioOf}
 use Rattle.codes.specs.Symbol.{symbolOf}
-use Rattle.codes.proofs.Tests.{by-test, not-both}
+use Rattle.codes.proofs.Tests.{by-pick, by-test, not-both}
 use Rattle.codes.proofs.Facts.{sound}
 use Rattle.frame.specs.Frame.{perOctet}
 use Rattle.reader.specs.declared.Hand.{Hand}
@@ -30,7 +30,6 @@ use Rattle.receiver.specs.Record.{startOf, either, forged, handOf, tookSymbol}
 use Rattle.receiver.proofs.Ways.{forged-refused}
 use Rattle.receiver.proofs.Honest.{open-honest, complete-honest}
 use Rattle.demands.specs.Calls.{Call, pushing, finishing, taking, called, after}
-use Rattle.demands.proofs.Fair.{by-pick}
 use Rattle.demands.proofs.Given.{among-pass, ofSymbol, push-ways, took-given, finish-ways}
 
 -- the numbers that end a record

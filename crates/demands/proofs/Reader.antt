@@ -18,31 +18,32 @@ use Rattle.reader.specs.declared.Reading.{Reading}
 use Rattle.reader.specs.Order.{Answer, refused, done, window, reading}
 use Rattle.reader.specs.Read.{told, left, answerAt, answered, readOf}
 use Rattle.demands.specs.Words.{Report, Answers, Near, success}
-use Rattle.demands.proofs.Fair.{Fair, answer-fair, done-unfair}
+use Rattle.reader.proofs.Fair.{Told, answer-told, Fair, answer-fair, done-unfair}
 use Rattle.demands.proofs.Demand3.{answer-place, answer-room, demand-3}
 use Rattle.demands.proofs.PutRight.{put-right}
 use Rattle.demands.proofs.NoFlat.{no-flat}
 
-module _ (mode : ℕ) (k : known mode ≡ true) (chips buffer report : List ℕ) (count : ℕ) where
-  -- an answer told so is this report's
-  told-done : (a : Answer) → Fair a → answered a buffer ≡ success mode buffer report count → a ≡ done (length (symbols (radioOf mode) report)) report count
-  unfolding told left
-  told-done (refused x place) f e = absurd (done-unfair x (ap (λ (o : Outcome Reading). o .answer .number) e) f)
-  told-done (done place other c) f e =
-      let l : length other ≡ length report = ap (λ (o : Outcome Reading). o .answer .n) e in
-      let b : other ++ drop (length other) buffer ≡ report ++ drop (length report) buffer = ap (λ (o : Outcome Reading). o .buffer) e in
-      let same : other ≡ report =
-      sym (take-at other (drop (length other) buffer) (length report) l)
-      ∙ ap (take (length report)) b ∙ take-at report (drop (length report) buffer) (length report) refl in
-      rw (ap (λ (o : Outcome Reading). o .answer .place) e, ap (λ (o : Outcome Reading). o .answer .count) e, same)
+-- an answer told so is this report's
+pub told-done : (mode : ℕ) (buffer report : List ℕ) (count : ℕ) (a : Answer) → Told a → answered a buffer ≡ success mode buffer report count
+    → a ≡ done (length (symbols (radioOf mode) report)) report count
+unfolding told left
+told-done mode buffer report count (refused x place) f e = absurd (f (ap (λ (o : Outcome Reading). o .answer .number) e))
+told-done mode buffer report count (done place other c) f e =
+    let l : length other ≡ length report = ap (λ (o : Outcome Reading). o .answer .n) e in
+    let b : other ++ drop (length other) buffer ≡ report ++ drop (length report) buffer = ap (λ (o : Outcome Reading). o .buffer) e in
+    let same : other ≡ report =
+    sym (take-at other (drop (length other) buffer) (length report) l)
+    ∙ ap (take (length report)) b ∙ take-at report (drop (length report) buffer) (length report) refl in
+    rw (ap (λ (o : Outcome Reading). o .answer .place) e, ap (λ (o : Outcome Reading). o .answer .count) e, same)
 
+module _ (mode : ℕ) (k : known mode ≡ true) (chips buffer report : List ℕ) (count : ℕ) where
   -- The reader's outcome is this report's and count's exactly when the reading answers them.
   pub success-answers : (readOf mode chips buffer ≡ success mode buffer report count) ↔ Answers (radioOf mode) (length buffer) chips report count
   unfolding answerAt told left
   success-answers =
       let a = reading (radioOf mode) (length buffer) chips in
       let e : readOf mode chips buffer ≡ answered a buffer = rw k in (
-        λ o. told-done a (answer-fair (radioOf mode) (length buffer) chips) (sym e ∙ o),
+        λ o. told-done mode buffer report count a (rw k at (answer-told mode (length buffer) chips)) (sym e ∙ o),
         λ q. e ∙ ap (λ (b : Answer). answered b buffer) q,
       )
 

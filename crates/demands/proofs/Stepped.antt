@@ -14,7 +14,7 @@ use borrow.Author.Tests.{eq-eqb, ne-eqb, eqb-true, eqb-false, le-ltb, not-true}
 use Rattle.codes.specs.Numbers.{MORE}
 use Rattle.codes.specs.Radio.{known, radioOf}
 use Rattle.codes.specs.Symbol.{symbolOf}
-use Rattle.codes.proofs.Tests.{by-test}
+use Rattle.codes.proofs.Tests.{by-pick, by-test}
 use Rattle.codes.proofs.Facts.{sound}
 use Rattle.reader.specs.Order.{Answer, refused, done, whole, readingFrom, reading}
 use Rattle.reader.specs.Read.{answerAt, answered, readOf}
@@ -25,7 +25,6 @@ use Rattle.receiver.specs.declared.Step.{Step}
 use Rattle.receiver.specs.Record.{startOf, forged, tookSymbol, pushOf, finishOf, roomFor, takeOf}
 use Rattle.demands.specs.Calls.{Call, pushing, called, after, stray, counted, inOrder}
 use Rattle.receiver.proofs.Stepping.{Going, Gone, start-going, start-gone, honest, going-open, finish-gone, push-going}
-use Rattle.demands.proofs.Fair.{by-pick}
 use Rattle.demands.proofs.Demand3.{answer-place, answer-room}
 use Rattle.demands.proofs.Given.{among-pass, ofSymbol, took-given}
 use Rattle.demands.proofs.Stray.{no-difference}

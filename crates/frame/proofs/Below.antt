@@ -2,7 +2,7 @@
 use mathlib.Core.List.{List, [], _∷_, _++_}
 use Prim.Native.Nat.{ℕ, zero, suc, _<_}
 use native.Mathlib.Omega.{arith}
-use lib.ListN.{length, getD, take, drop}
+use lib.ListN.{length, getD, set, take, drop}
 
 abbrev pub Below : ℕ → List ℕ → Type 0
 Below w [] = Unit {0}
@@ -34,3 +34,9 @@ pub below-drop : (w n : ℕ) (xs : List ℕ) → Below w xs → Below w (drop n 
 below-drop w zero xs p = p
 below-drop w (suc n) [] p = tt
 below-drop w (suc n) (x ∷ xs) p = below-drop w n xs (p .1)
+
+-- and so is a list with another such number in a place
+pub below-set : (w : ℕ) (xs : List ℕ) (i v : ℕ) → Below w xs → v < w → Below w (set xs i v)
+below-set w [] i v p h = tt
+below-set w (x ∷ xs) zero v p h = (h, p .1)
+below-set w (x ∷ xs) (suc i) v p h = (p .0, below-set w xs i v (p .1) h)

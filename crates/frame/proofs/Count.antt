@@ -2,7 +2,7 @@
 use mathlib.Core.Path.{_≡_, refl, sym, ap, _∙_}
 use mathlib.Core.List.{List, [], _∷_}
 use Prim.Native.Nat.{ℕ, zero, suc, _+_, _*_, _/_, _^_, _<_}
-use native.Mathlib.Nat.{zero-mul, suc-mul, mul-assoc, mod-lt}
+use native.Mathlib.Nat.{zero-mul, suc-mul, mul-assoc, mod-lt, zero-mod, zero-div}
 use native.Mathlib.Omega.{arith}
 use lib.ListN.{length, length-append}
 use lib.Pow.{pow-pos}
@@ -14,15 +14,21 @@ use Rattle.frame.proofs.Below.{Below, below-append}
 use Rattle.frame.proofs.Chain.{encode-long}
 use Rattle.frame.specs.Frame.{octets, perOctet, digits, rawOf, raws, sent, encode, symbols, chipsOf, frame}
 
-digits-long : (k base x : ℕ) → length (digits k base x) ≡ k
+pub digits-long : (k base x : ℕ) → length (digits k base x) ≡ k
 unfolding digits
 digits-long zero base x = refl
 digits-long (suc k) base x = ap suc (digits-long k base (x / base))
 
-digits-below : (k base x : ℕ) → 0 < base → Below base (digits k base x)
+pub digits-below : (k base x : ℕ) → 0 < base → Below base (digits k base x)
 unfolding digits
 digits-below zero base x h = tt
 digits-below (suc k) base x h = (mod-lt x h, digits-below k base (x / base) h)
+
+-- the digits of 0 are 0
+pub digits-nought : (k base : ℕ) → Below 1 (digits k base 0)
+unfolding digits
+digits-nought zero base = tt
+digits-nought (suc k) base = (omega (arith, zero-mod base), rw (zero-div base) (digits-nought k base))
 
 module _ (r : Radio) where
   -- of an octet

@@ -1,5 +1,5 @@
 -- The promises settle what they speak of: two outcomes that satisfy one are equal. The writer's
--- settles its answer and every byte of the lent buffer at exit; it speaks of the writer's own
+-- settles its answer and every byte of the lent buffer at exit; each speaks of the function's own
 -- contract, as `Settles` does. Assumes nothing.
 use mathlib.Core.Path.{_≡_, ap}
 use mathlib.Core.List.{List}
@@ -8,10 +8,12 @@ use contract.Lifetimes.{Lfts}
 use denote.Ref.{now}
 use denote.Triple.Clauses.{AtExit}
 use borrow.Fn.Kinds.{Dens, resT, endedOf}
-use Rattle.codes.proofs.Settled.{settled, AsksNothing}
+use Rattle.codes.proofs.Settled.{settled, Settles, AsksNothing}
 use Rattle.frame.specs.Outcome.{Outcome, outcome}
 use Rattle.frame.proofs.write.Kinds as write-kinds
 use Rattle.frame.proofs.write.Reads as write-promise
+use Rattle.frame.proofs.refusal.Kinds as refusal-kinds
+use Rattle.frame.proofs.refusal.Reads as refusal-promise
 
 -- an outcome is an answer and a buffer
 pub same-outcome : {A : Type 0} (p q : A) (b c : List ℕ) → outcome p b ≡ outcome q c → (p ≡ q) × (b ≡ c)
@@ -22,5 +24,11 @@ pub write-settled : (κs : Lfts 2) (a : Dens κs write-kinds.ps) (p q : resT wri
     → write-promise.Post κs a p s → write-promise.Post κs a q t → (p ≡ q) × (now (s .1 .1 .0) ≡ now (t .1 .1 .0))
 write-settled κs a p q s t e f = same-outcome p q _ _ (settled _ _ e f)
 
+pub refusal-settled : Settles 0 refusal-kinds.ps refusal-kinds.r refusal-promise.Post
+refusal-settled κs a p q s t = settled p q
+
 pub write-asks-nothing : AsksNothing 2 write-kinds.ps write-promise.Pre
 write-asks-nothing κs a = tt
+
+pub refusal-asks-nothing : AsksNothing 0 refusal-kinds.ps refusal-promise.Pre
+refusal-asks-nothing κs a = tt

@@ -47,7 +47,7 @@ pub fn write(mode: u32, report: &[u8], chips: &mut [u8]) -> Written
 }
 
 // Refused: chip count 0.
-fn refusal(number: u32) -> Written
+pub fn refusal(number: u32) -> Written
     ensures { λ r. ⌜ r ≡ refused number ⌝ }
 {
     Written { number, chips: 0 }

@@ -20,6 +20,16 @@ use Rattle.gateway.proofs.lernazhup_finish.Kinds as finish-kinds
 use Rattle.gateway.proofs.lernazhup_finish.Reads as finish-promise
 use Rattle.gateway.proofs.lernazhup_take.Kinds as take-kinds
 use Rattle.gateway.proofs.lernazhup_take.Reads as take-promise
+use Rattle.gateway.proofs.lernazhup_write_checked.Kinds as write-checked-kinds
+use Rattle.gateway.proofs.lernazhup_write_checked.Reads as write-checked-promise
+use Rattle.gateway.proofs.lernazhup_read_checked.Kinds as read-checked-kinds
+use Rattle.gateway.proofs.lernazhup_read_checked.Reads as read-checked-promise
+use Rattle.gateway.proofs.lernazhup_fcs.Kinds as fcs-kinds
+use Rattle.gateway.proofs.lernazhup_fcs.Reads as fcs-promise
+use Rattle.gateway.proofs.lernazhup_fcs_bitwise.Kinds as fcs-bitwise-kinds
+use Rattle.gateway.proofs.lernazhup_fcs_bitwise.Reads as fcs-bitwise-promise
+use Rattle.gateway.proofs.lernazhup_check.Kinds as check-kinds
+use Rattle.gateway.proofs.lernazhup_check.Reads as check-promise
 
 -- `s .1 .1 .0` is the third parameter at exit
 pub write-settled : (κs : Lfts 2) (a : Dens κs write-kinds.ps) (p q : resT write-kinds.r κs .Denot) (s t : AtExit (endedOf 2 write-kinds.ps write-kinds.r) κs)
@@ -45,6 +55,32 @@ pub take-settled : (κs : Lfts 1) (a : Dens κs take-kinds.ps) (p q : resT take-
     → take-promise.Post κs a p s → take-promise.Post κs a q t → (p ≡ q) × (now (s .1 .0) ≡ now (t .1 .0))
 take-settled κs a p q s t e f = same-outcome p q _ _ (settled _ _ e f)
 
+-- `s .1 .1 .0` is the third parameter at exit
+pub write-checked-settled : (κs : Lfts 2) (a : Dens κs write-checked-kinds.ps) (p q : resT write-checked-kinds.r κs .Denot)
+    (s t : AtExit (endedOf 2 write-checked-kinds.ps write-checked-kinds.r) κs)
+    → write-checked-promise.Post κs a p s → write-checked-promise.Post κs a q t → (p ≡ q) × (now (s .1 .1 .0) ≡ now (t .1 .1 .0))
+write-checked-settled κs a p q s t e f = same-outcome p q _ _ (settled _ _ e f)
+
+-- `s .1 .1 .0` is the third parameter at exit
+pub read-checked-settled : (κs : Lfts 2) (a : Dens κs read-checked-kinds.ps) (p q : resT read-checked-kinds.r κs .Denot)
+    (s t : AtExit (endedOf 2 read-checked-kinds.ps read-checked-kinds.r) κs)
+    → read-checked-promise.Post κs a p s → read-checked-promise.Post κs a q t → (p ≡ q) × (now (s .1 .1 .0) ≡ now (t .1 .1 .0))
+read-checked-settled κs a p q s t e f = same-outcome p q _ _ (settled _ _ e f)
+
+pub fcs-settled : Settles 1 fcs-kinds.ps fcs-kinds.r fcs-promise.Post
+fcs-settled κs a p q s t = settled p q
+
+pub fcs-bitwise-settled : Settles 1 fcs-bitwise-kinds.ps fcs-bitwise-kinds.r fcs-bitwise-promise.Post
+fcs-bitwise-settled κs a p q s t = settled p q
+
+pub check-settled : Settles 1 check-kinds.ps check-kinds.r check-promise.Post
+check-settled κs a p q s t = settled p q
+
+-- The two ways to the FCS are equal on every input.
+pub both-equal : (κs : Lfts 1) (a : Dens κs fcs-kinds.ps) (p q : resT fcs-kinds.r κs .Denot) (s t : AtExit (endedOf 1 fcs-kinds.ps fcs-kinds.r) κs)
+    → fcs-promise.Post κs a p s → fcs-bitwise-promise.Post κs a q t → p ≡ q
+both-equal κs a p q s t = settled p q
+
 pub write-asks-nothing : AsksNothing 2 write-kinds.ps write-promise.Pre
 write-asks-nothing κs a = tt
 
@@ -62,3 +98,18 @@ finish-asks-nothing κs a = tt
 
 pub take-asks-nothing : AsksNothing 1 take-kinds.ps take-promise.Pre
 take-asks-nothing κs a = tt
+
+pub write-checked-asks-nothing : AsksNothing 2 write-checked-kinds.ps write-checked-promise.Pre
+write-checked-asks-nothing κs a = tt
+
+pub read-checked-asks-nothing : AsksNothing 2 read-checked-kinds.ps read-checked-promise.Pre
+read-checked-asks-nothing κs a = tt
+
+pub fcs-asks-nothing : AsksNothing 1 fcs-kinds.ps fcs-promise.Pre
+fcs-asks-nothing κs a = tt
+
+pub fcs-bitwise-asks-nothing : AsksNothing 1 fcs-bitwise-kinds.ps fcs-bitwise-promise.Pre
+fcs-bitwise-asks-nothing κs a = tt
+
+pub check-asks-nothing : AsksNothing 1 check-kinds.ps check-promise.Pre
+check-asks-nothing κs a = tt

@@ -1,12 +1,13 @@
 // The functions that C calls, with the names, parameters and structs of include/lernazhup.h. Each
-// is one call of the function of the same name below it and promises what that one does, so there
-// is nothing more to prove. The structs are those of `frame`, `reader` and `receiver`, laid out as
-// C lays them out.
+// is one call of a function below it and promises what that one does, so there is nothing more to
+// prove. The structs are those of `frame`, `reader` and `receiver`, laid out as C lays them out.
 ghost use mathlib.Core.Path.{_≡_};
 ghost use Rattle.frame.specs.Outcome.{outcome};
 ghost use Rattle.frame.specs.Write.{written};
 ghost use Rattle.reader.specs.Read.{readOf};
 ghost use Rattle.receiver.specs.Record.{startOf, pushOf, finishOf, takeOf};
+ghost use Rattle.fcs.specs.Fcs.{fcsOf};
+ghost use Rattle.checked.specs.Profile.{checkOf, readCheckedOf, writtenChecked};
 
 // A report to a frame's chips.
 #[no_mangle]
@@ -54,4 +55,52 @@ pub extern "C" fn lernazhup_take(receiver: receiver::Receiver, report: &mut [u8]
     ensures { λ r. ⌜ outcome r (now (report .exit)) ≡ takeOf receiver (now (report .entry)) ⌝ }
 {
     receiver.take(report)
+}
+
+// The FCS of octets, by the table.
+#[no_mangle]
+pub extern "C" fn lernazhup_fcs(octets: &[u8]) -> u32
+    ensures { λ r. ⌜ r ≡ fcsOf (now (octets .entry)) ⌝ }
+{
+    fcs::by_table(octets)
+}
+
+// The FCS of octets, bit by bit.
+#[no_mangle]
+pub extern "C" fn lernazhup_fcs_bitwise(octets: &[u8]) -> u32
+    ensures { λ r. ⌜ r ≡ fcsOf (now (octets .entry)) ⌝ }
+{
+    fcs::bitwise(octets)
+}
+
+// The checked profile's tests of a report.
+#[no_mangle]
+pub extern "C" fn lernazhup_check(octets: &[u8]) -> u32
+    ensures { λ r. ⌜ r ≡ checkOf (now (octets .entry)) ⌝ }
+{
+    checked::check(octets)
+}
+
+// A report to the chips of the frame that ends in its FCS.
+#[no_mangle]
+pub extern "C" fn lernazhup_write_checked(
+    mode: u32,
+    report: &[u8],
+    chips: &mut [u8],
+) -> frame::Written
+    ensures { λ r. ⌜ outcome r (now (chips .exit)) ≡ writtenChecked mode (now (report .entry)) (now (chips .entry)) ⌝ }
+{
+    checked::write(mode, report, chips)
+}
+
+// A frame's chips to the report, where its FCS is right and not every octet is 0.
+#[no_mangle]
+pub extern "C" fn lernazhup_read_checked(
+    mode: u32,
+    chips: &[u8],
+    report: &mut [u8],
+) -> reader::Reading
+    ensures { λ r. ⌜ outcome r (now (report .exit)) ≡ readCheckedOf mode (now (chips .entry)) (now (report .entry)) ⌝ }
+{
+    checked::read(mode, chips, report)
 }

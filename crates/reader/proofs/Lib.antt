@@ -1,5 +1,6 @@
 -- Laws of reading, leaves first.
 pub mod Rules
+pub mod Fair
 pub mod Steps
 pub mod Raw
 pub mod Windows

@@ -183,7 +183,7 @@ module _ (r : Radio) (S : Sound r) where
       (v, rw (← v) (shifts-below bs 0 (omega arith) b))
 
   -- a symbol has a bit
-  bits-pos : 0 < r .bits
+  pub bits-pos : 0 < r .bits
   bits-pos =
       ⊎-elim
       (λ (e : r .bits ≡ 0). absurd (omega (arith, S .divides, ap (λ (x : ℕ). 8 / r .bits * x) e, mul-zero (8 / r .bits))))

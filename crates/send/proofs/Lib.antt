@@ -1,2 +1,4 @@
--- Laws of the argument's digits.
+-- Laws of the arguments, and of the chips counted.
 mod Digits
+mod Option
+mod Fits

@@ -1,2 +1,3 @@
--- What an argument says.
+-- What the arguments say.
 pub mod Mode
+pub mod Option

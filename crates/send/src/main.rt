@@ -1,10 +1,13 @@
 // A report to a raw capture: reads a report from standard input and writes its frame, a byte a
-// chip, to standard output. The mode is the one argument. On a refusal it writes nothing there, and
-// the number and its meaning, one line, to standard error.
+// chip, to standard output. The mode is the last argument; -c before it asks for the checked
+// profile. On a refusal it writes nothing there, and the number and its meaning, one line, to
+// standard error.
 ghost use mathlib.Core.Path.{_≡_};
 ghost use Prim.Native.Nat.{min, _≤_};
 ghost use lib.ListN.{length};
+ghost use Rattle.frame.specs.Outcome.{outcome};
 ghost use Rattle.send.specs.Mode.{none, modeOf};
+ghost use Rattle.send.specs.Option.{isOption, writtenAs};
 use libc::STDERR_FILENO;
 use libc::STDIN_FILENO;
 use libc::STDOUT_FILENO;
@@ -16,10 +19,11 @@ struct Input {
 }
 
 fn main() {
-    let mode = asked_mode();
+    let checked = asked_checked();
+    let mode = asked_mode(checked);
     // Told before anything is read, so that nobody types a report in vain.
     if codes::phy_of(mode).size == 0 {
-        complain(codes::BADMODE);
+        complain(codes::BADMODE, checked);
         return;
     }
     // One octet more than a report may have, so that a longer one is refused and not cut.
@@ -31,9 +35,9 @@ fn main() {
     }
     let octets = input.octets;
     let mut chips = buffer();
-    let written = frame::write(mode, &report[..octets], &mut chips);
+    let written = write(checked, mode, &report[..octets], &mut chips);
     if written.number != codes::DONE {
-        complain(written.number);
+        complain(written.number, checked);
         return;
     }
     let count = written.chips as usize;
@@ -68,6 +72,17 @@ fn read_all(buffer: &mut [u8]) -> Input
     }
 }
 
+// The frame in the profile that is asked for.
+fn write(checked: bool, mode: u32, report: &[u8], chips: &mut [u8]) -> frame::Written
+    ensures { λ r. ⌜ outcome r (now (chips .exit)) ≡ writtenAs checked mode (now (report .entry)) (now (chips .entry)) ⌝ }
+{
+    if checked {
+        checked::write(mode, report, chips)
+    } else {
+        frame::write(mode, report, chips)
+    }
+}
+
 // Room for the longest frame.
 fn buffer() -> [u8; 15960]
     ensures { λ r. ⌜ 15960 ≡ length r ⌝ }
@@ -75,14 +90,39 @@ fn buffer() -> [u8; 15960]
     [0; 15960]
 }
 
-// The mode that the one argument names. With none, or with more than one, there is none.
-fn asked_mode() -> u32 {
-    if os::arg_count() != 2 {
+// Whether the first argument is the option.
+fn asked_checked() -> bool {
+    let mut text = [0u8; 64];
+    let length = os::arg(1, &mut text);
+    is_option(&text[..length])
+}
+
+// -c, and nothing that only begins so.
+fn is_option(text: &[u8]) -> bool
+    ensures { λ r. ⌜ r ≡ isOption (now (text .entry)) ⌝ }
+{
+    if text.len() != 2 {
+        return false;
+    }
+    text[0] == b'-' && text[1] == b'c'
+}
+
+// The mode that the last argument names. With one too few or too many there is none.
+fn asked_mode(checked: bool) -> u32 {
+    let last = last_argument(checked);
+    if os::arg_count() != last + 1 {
         return u32::MAX;
     }
     let mut text = [0u8; 64];
-    let length = os::arg(1, &mut text);
+    let length = os::arg(last, &mut text);
     mode_of(&text[..length])
+}
+
+// The mode's number among the arguments: the option is one more before it.
+fn last_argument(checked: bool) -> usize
+    ensures { λ r. ⌜ r ≤ 2 ⌝ }
+{
+    if checked { 2 } else { 1 }
 }
 
 // A missing argument, one that is no number and one above 32 bits are a mode that no radio has.
@@ -114,16 +154,24 @@ fn capped(x: u64) -> u64
     if x <= 4294967295 { x } else { 4294967295 }
 }
 
-// The writer's refusals, in the words of the numbers given back.
-fn complain(number: u32) {
+// The writers' refusals, in the words of the numbers given back.
+fn complain(number: u32, checked: bool) {
     io::print_decimal(STDERR_FILENO, number as u64);
     if number == codes::BADMODE {
         io::write_all(STDERR_FILENO, b" mode above 2\n");
     }
     if number == codes::TOOLONG {
-        io::write_all(STDERR_FILENO, b" report longer than 127\n");
+        io::write_all(STDERR_FILENO, b" report longer than ");
+        io::print_decimal(STDERR_FILENO, if checked { 125 } else { 127 });
+        io::write_all(STDERR_FILENO, b"\n");
     }
     if number == codes::NOROOM {
         io::write_all(STDERR_FILENO, b" lent buffer too short\n");
+    }
+    if number == codes::TOOFEW {
+        io::write_all(STDERR_FILENO, b" too few octets\n");
+    }
+    if number == codes::ALLZERO {
+        io::write_all(STDERR_FILENO, b" every octet 0\n");
     }
 }

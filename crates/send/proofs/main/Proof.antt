@@ -1,11 +1,14 @@
 -- `main` is safe: the octets that were read are in their buffer, and the chips that the writer
--- counts in theirs (`chips-fit`). Assumes nothing.
+-- counts in theirs (`either-fits`). Assumes nothing.
 use mathlib.Core.Path.{sym}
 use lib.Seq.{length-take-le}
 use borrow.Author.Needs.{needs}
-use Rattle.frame.proofs.Writer.{chips-fit}
+use Rattle.send.proofs.Fits.{either-fits}
 use Rattle.send.proofs.main.Statement.{statement}
 use Rattle.send.proofs.main.Tie as tie
+
+asked-checked-requires : tie.Need-asked-checked-requires
+asked-checked-requires c κs = search needs
 
 asked-mode-requires : tie.Need-asked-mode-requires
 asked-mode-requires c κs = search needs
@@ -60,11 +63,11 @@ cast-count c = search needs
 
 array-share-prefix-chips : tie.Need-array-share-prefix-chips
 array-share-prefix-chips c = let w = c .before .before .before .before .write in
-    chips-fit _ _ _ _ _ (w .ensures) (w .kept .1 .1 .0)
+    either-fits _ _ _ _ _ _ (w .ensures) (w .kept .1 .1 .1 .0)
 
 slice-aggregate-write-all : tie.Need-slice-aggregate-write-all
 slice-aggregate-write-all c = let w = c .before .before .before .before .before .write in
-    sym (length-take-le _ _ (chips-fit _ _ _ _ _ (w .ensures) (w .kept .1 .1 .0)))
+    sym (length-take-le _ _ (either-fits _ _ _ _ _ _ (w .ensures) (w .kept .1 .1 .1 .0)))
 
 write-all-requires : tie.Need-write-all-requires
 write-all-requires c κs = search needs
@@ -85,6 +88,7 @@ pub main-spec : {M : Type 1} → statement M
 main-spec =
     tie.close
     (tie.spec
+    asked-checked-requires
     asked-mode-requires
     phy-of-requires
     complain-requires

@@ -1,0 +1,8 @@
+-- Laws of the profile's tests, of the octets appended, and of the room.
+pub mod Tests
+pub mod Passing
+pub mod Appended
+pub mod Writer
+pub mod Room
+pub mod Reader
+pub mod Settled

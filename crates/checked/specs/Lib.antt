@@ -1,0 +1,2 @@
+-- The checked profile.
+pub mod Profile

@@ -1,0 +1,239 @@
+-- A frame that the checked writer wrote, of which one symbol of the report or of its FCS is read as
+-- another value, is refused with 15. What is then read is the frame of another report, as long as
+-- the one sent: the raw symbols differ at that symbol and, in a chained radio, at the next, so the
+-- bits differ within one run of 16, and the FCS of the other is wrong. For any sound radio. Assumes
+-- nothing.
+use mathlib.Core.Path.{_≡_, refl, sym, ap, ap₂, _∙_}
+use mathlib.Core.Bool.{true}
+use mathlib.Core.List.{List, [], _∷_, _++_}
+use Prim.Native.Nat.{ℕ, zero, suc, _+_, _-_, _*_, _^_, _≤_, _<_}
+use native.Mathlib.Nat.{one-mul, mul-assoc, mul-le-mul-right, le-div-iff-mul-le}
+use native.Mathlib.Omega.{arith}
+use lib.ListN.{length, getD, set, take, length-set}
+use lib.Seq.{take-set-le, getD-set-same, getD-append-add}
+use borrow.Author.Tests.{eqb-false}
+use Rattle.codes.specs.Numbers.{DONE, BADCHECK}
+use Rattle.codes.specs.Radio.{Radio, Sound, known, radioOf}
+use Rattle.codes.specs.Chips.{distance}
+use Rattle.codes.specs.Symbol.{symbolOf}
+use Rattle.codes.proofs.Tests.{by-test}
+use Rattle.codes.proofs.Facts.{sound}
+use Rattle.codes.proofs.Unique.{Reads, of-symbol}
+use Rattle.frame.specs.Frame.{startOctet, octets, perOctet, raws, encode, symbols}
+use Rattle.frame.proofs.Below.{Below, below-at, below-take, below-set}
+use Rattle.frame.proofs.Count.{raws-below, symbols-long, symbols-below}
+use Rattle.reader.specs.Received.{decode, octetAt, octetsFrom}
+use Rattle.reader.specs.Order.{window, whole, repaired, reading}
+use Rattle.reader.proofs.Raw.{per-positive, bits-pos, decode-long, decode-below, octets-long, size-pos}
+use Rattle.reader.proofs.Windows.{whole-long, whole-at, seen}
+use Rattle.fcs.specs.Fcs.{bits, withFcs}
+use Rattle.fcs.proofs.Catches.{never-within-16}
+use Rattle.fcs.proofs.Remainder.{with-long}
+use Rattle.checked.specs.Profile.{body, rightFcs, checkOf, readCheckedOf}
+use Rattle.checked.proofs.Passing.{right-with, wrong-check}
+use Rattle.fcs.proofs.Bits.{bits-append, bits-long}
+use Rattle.demands.specs.Words.{Report}
+use Rattle.demands.specs.Calls.{tells}
+use Rattle.demands.specs.Profile.{ReadAs}
+use Rattle.demands.proofs.Back.{decode-take, decode-encode, encode-decode}
+use Rattle.demands.proofs.Octet.{raws-octets, octets-below, octet-take}
+use Rattle.demands.proofs.Framed.{again}
+use Rattle.demands.proofs.Spread.{bitsOf, bits-raws, within-two}
+use Rattle.demands.proofs.Stands.{Stands}
+use Rattle.demands.proofs.Answered.{windows-answer}
+use Rattle.demands.proofs.Reader.{success-answers}
+use Rattle.demands.proofs.Checked.{with-report, checked-refused}
+
+-- with one value another, the raw symbols are others there and at the next place at most
+raw-elsewhere : (r : Radio) (last : ℕ) (vs : List ℕ) (s v j : ℕ) → (j ≡ s → ⊥) → (j ≡ suc s → ⊥)
+    → getD (decode r last (set vs s v)) j 0 ≡ getD (decode r last vs) j 0
+unfolding decode
+raw-elsewhere r last [] s v j n m = refl
+raw-elsewhere r last (u ∷ vs) zero v zero n m = absurd (n refl)
+raw-elsewhere r last (u ∷ vs) zero v (suc zero) n m = absurd (m refl)
+raw-elsewhere r last (u ∷ []) zero v (suc (suc j)) n m = refl
+raw-elsewhere r last (u ∷ w ∷ vs) zero v (suc (suc j)) n m = refl
+raw-elsewhere r last (u ∷ vs) (suc s) v zero n m = refl
+raw-elsewhere r last (u ∷ vs) (suc s) v (suc j) n m = raw-elsewhere r u vs s v j (λ e. n (ap suc e)) (λ e. m (ap suc e))
+
+-- A report's frame, and its symbols but for one after the length octet, which is another value.
+module _ (r : Radio) (S : Sound r) (report : List ℕ) (P : Report report) (s v : ℕ) (h : 6 * perOctet r ≤ s) (below : v < 2 ^ r .bits) where
+  abbrev vs : List ℕ
+  vs = symbols r report
+
+  abbrev all : List ℕ
+  all = raws r (octets report)
+
+  -- the values read, and the raw symbols that they make
+  abbrev others : List ℕ
+  others = set vs s v
+
+  abbrev bs : List ℕ
+  bs = decode r 0 others
+
+  others-below : Below (2 ^ r .bits) others
+  others-below = below-set (2 ^ r .bits) vs s v (symbols-below r S report) below
+
+  bs-below : Below (2 ^ r .bits) bs
+  bs-below = decode-below r S 0 others others-below
+
+  raw-again : decode r 0 vs ≡ all
+  unfolding symbols
+  raw-again = decode-encode r S 0 all (raws-below r (octets report))
+
+  bs-long : length bs ≡ (6 + length report) * perOctet r
+  bs-long = decode-long r 0 others ∙ length-set vs s v ∙ symbols-long r report
+
+  -- the report in them
+  abbrev other : List ℕ
+  other = octetsFrom r 6 (length report) bs
+
+  -- the first six octets are the frame's
+  front : (k : ℕ) → k < 6 → octetAt r k bs ≡ octetAt r k all
+  front k l =
+      let j = 6 * perOctet r in
+      let q : suc k * perOctet r ≤ j = mul-le-mul-right (perOctet r) l in
+      let e : take j bs ≡ take j all =
+      decode-take r 0 j others ∙ ap (decode r 0) (take-set-le j vs s v h) ∙ sym (decode-take r 0 j vs) ∙ ap (take j) raw-again in
+      sym (octet-take r k j bs q) ∙ ap (octetAt r k) e ∙ octet-take r k j all q
+
+  pub other-long : length other ≡ length report
+  other-long = octets-long r 6 (length report) bs
+
+  other-octets : octetsFrom r 0 (6 + length report) bs ≡ octets other
+  unfolding octetsFrom
+  other-octets =
+      let e : 6 + length report ≡ suc (suc (suc (suc (suc (suc (length report)))))) = omega arith in
+      let sent = again r S report P in
+      rw (
+        e,
+        front 0 (omega arith) ∙ ap (λ (xs : List ℕ). getD xs 0 0) sent,
+        front 1 (omega arith) ∙ ap (λ (xs : List ℕ). getD xs 1 0) sent,
+        front 2 (omega arith) ∙ ap (λ (xs : List ℕ). getD xs 2 0) sent,
+        front 3 (omega arith) ∙ ap (λ (xs : List ℕ). getD xs 3 0) sent,
+        front 4 (omega arith) ∙ ap (λ (xs : List ℕ). getD xs 4 0) sent,
+        front 5 (omega arith) ∙ ap (λ (xs : List ℕ). getD xs 5 0) sent,
+        other-long,
+      )
+
+  other-raws : raws r (octets other) ≡ bs
+  other-raws = ap (raws r) (sym other-octets) ∙ raws-octets r S (6 + length report) bs bs-below bs-long
+
+  pub other-symbols : symbols r other ≡ others
+  unfolding symbols
+  other-symbols = ap (encode r 0) other-raws ∙ encode-decode r S 0 others others-below
+
+  pub other-below : Below 256 other
+  other-below = octets-below r S 6 (length report) bs bs-below
+
+  -- the raw symbols differ at s and s + 1 at most
+  differ-two : (j : ℕ) → (j ≡ s → ⊥) → (j ≡ suc s → ⊥) → getD (raws r (octets report)) j 0 ≡ getD (raws r (octets other)) j 0
+  differ-two j n m = rw other-raws (sym (raw-elsewhere r 0 vs s v j n m ∙ rw raw-again))
+
+  bits-few : r .bits ≤ 8
+  bits-few = omega (arith, S .divides, mul-le-mul-right (r .bits) (per-positive r S), one-mul (r .bits))
+
+  -- symbol s is one of the report's, whose bits come after 48 others
+  sent-after : 48 ≤ s * r .bits
+  sent-after = omega (arith, mul-le-mul-right (r .bits) h, mul-assoc 6 (perOctet r) (r .bits), ap (λ (n : ℕ). 6 * n) (S .divides))
+
+  report-bit : (xs : List ℕ) (i : ℕ) → getD (bitsOf (r .bits) (raws r (octets xs))) (48 + i) 0 ≡ getD (bits xs) i 0
+  report-bit xs i =
+      let six : List ℕ = 0 ∷ 0 ∷ 0 ∷ 0 ∷ startOctet ∷ length xs ∷ [] in
+      ap (λ (l : List ℕ). getD l (48 + i) 0) (sym (bits-raws r S (octets xs)) ∙ bits-append six xs)
+      ∙ ap (λ (n : ℕ). getD (bits six ++ bits xs) (n + i) 0) (sym (bits-long six))
+      ∙ getD-append-add (bits six) (bits xs) i 0
+
+  -- so the report's bits differ within a run of 16
+  pub bits-within : (i : ℕ) → (getD (bits report) i 0 ≡ getD (bits other) i 0 → ⊥) → (s * r .bits - 48 ≤ i) × (i < s * r .bits - 48 + 16)
+  bits-within i n =
+      let w = within-two (r .bits) (bits-pos r S) bits-few (raws r (octets report)) (raws r (octets other)) s differ-two (48 + i) (λ e. n (shifted e)) in
+      (omega (arith, w .0, w .1, sent-after), omega (arith, w .0, w .1, sent-after))
+    where
+      shifted : getD (bitsOf (r .bits) (raws r (octets report))) (48 + i) 0 ≡ getD (bitsOf (r .bits) (raws r (octets other))) (48 + i) 0
+          → getD (bits report) i 0 ≡ getD (bits other) i 0
+      shifted e = sym (report-bit report i) ∙ e ∙ report-bit other i
+
+-- What is read so stands in the windows, at the distances from its words.
+module _ (r : Radio) (S : Sound r) (chips vs : List ℕ) (A : ReadAs r chips vs) where
+  read-at : (j : ℕ) → j < length vs → Reads r (window r chips j) (getD vs j 0) (symbolOf r (window r chips j) .distance)
+  read-at j h =
+      of-symbol r (window r chips j) (getD vs j 0) (symbolOf r (window r chips j) .distance)
+      (λ i. record { number = A .read j h i; value = A .value j h i; distance = symbolOf r (window r chips j) .distance })
+
+  enough : length vs ≤ length (whole r chips)
+  enough = omega (arith, le-div-iff-mul-le {x = length vs} (size-pos r S) .1 (A .long), whole-long r chips)
+
+  pub read-stands : Stands r (whole r chips) vs (repaired (take (length vs) (seen r (whole r chips))))
+  read-stands =
+      record {
+        enough = enough;
+        stands = λ j h.
+            rw (whole-at r chips j (omega (arith, enough)))
+            (λ i. record { number = A .read j h i; value = A .value j h i; distance = read-at j h .apart i });
+        total = refl;
+      }
+
+-- A checked frame of which one symbol, of the report or of its FCS, is read as another value.
+module _ (mode : ℕ) (k : known mode ≡ true) (report : List ℕ) (o : Below 256 report) (one : 1 ≤ length report) (short : length report ≤ 125)
+    (s v : ℕ) (h : 6 * perOctet (radioOf mode) ≤ s) (l : s < length (symbols (radioOf mode) (withFcs report)))
+    (n : v ≡ getD (symbols (radioOf mode) (withFcs report)) s 0 → ⊥)
+    (chips : List ℕ) (A : ReadAs (radioOf mode) chips (set (symbols (radioOf mode) (withFcs report)) s v)) where
+  abbrev r : Radio
+  r = radioOf mode
+
+  abbrev sent : List ℕ
+  sent = withFcs report
+
+  P : Report sent
+  P = with-report report o short
+
+  v-known : v < 2 ^ r .bits
+  v-known =
+      let e : getD (set (symbols r sent) s v) s 0 ≡ v = getD-set-same (symbols r sent) s v 0 l in
+      let q = read-at r (sound mode) chips (set (symbols r sent) s v) A s (omega (arith, l, length-set (symbols r sent) s v)) .known in
+      rw (e, sound mode .many) at q
+
+  abbrev got : List ℕ
+  got = other r (sound mode) sent P s v h v-known
+
+  got-wrong : checkOf got ≡ BADCHECK
+  got-wrong = wrong-check got (omega (arith, long, with-long report, one)) (by-test (rightFcs got) (λ t. absurd (same-clash (right t))) (λ f. f))
+    where
+      long : length got ≡ length sent
+      long = other-long r (sound mode) sent P s v h v-known
+
+      -- another report cannot end in its FCS
+      right : rightFcs got ≡ true → sent ≡ got
+      right t =
+          let w = right-with got (other-below r (sound mode) sent P s v h v-known) (omega (arith, long, with-long report, one)) t in
+          let q : length report ≡ length (body got) = omega (arith, ap length w, with-long (body got), long, with-long report) in
+          let b : Below 256 (body got) = below-take 256 (length got - 2) got (other-below r (sound mode) sent P s v h v-known) in
+          let e = never-within-16 report (body got) o b q (s * r .bits - 48)
+          (λ i d. bits-within r (sound mode) sent P s v h v-known i (λ z. d (z ∙ ap (λ (xs : List ℕ). getD (bits xs) i 0) w))) in
+          ap withFcs e ∙ sym w
+
+      -- for its symbols are other ones
+      same-clash : sent ≡ got → ⊥
+      same-clash e =
+          n
+          (sym
+          (ap (λ (xs : List ℕ). getD xs s 0) (ap (symbols r) e ∙ other-symbols r (sound mode) sent P s v h v-known)
+          ∙ getD-set-same (symbols r sent) s v 0 l))
+
+  -- It is 15, at the frame's number of symbols, with nothing stored.
+  pub one-misread : (buffer : List ℕ) → length report + 2 ≤ length buffer
+      → readCheckedOf mode chips buffer ≡ tells BADCHECK (length (symbols (radioOf mode) (withFcs report))) buffer
+  unfolding reading
+  one-misread buffer room =
+      let S = sound mode in
+      let vs = set (symbols r sent) s v in
+      let q = other-symbols r S sent P s v h v-known in
+      let long = other-long r S sent P s v h v-known in
+      let R : Report got =
+      record { short = omega (arith, long, P .short); octets = below-at 256 got (other-below r S sent P s v h v-known) } in
+      let T = rw (← q) at (read-stands r S chips vs A) in
+      let a = windows-answer r S (length buffer) (whole r chips) got R (omega (arith, long, with-long report, room)) _ T in
+      let out = success-answers mode k chips buffer got _ .1 a in
+      checked-refused mode chips buffer got _ out (λ z. eqb-false BADCHECK DONE refl (sym got-wrong ∙ z))
+      ∙ ap₂ (λ x place. tells x place buffer) got-wrong (ap length q ∙ length-set (symbols r sent) s v)

@@ -1,0 +1,102 @@
+-- The numbers that the reading refuses with, of which the number of success is none. For any radio.
+-- Assumes nothing.
+use mathlib.Core.Path.{_≡_, refl}
+use mathlib.Core.Bool.{true, false, not}
+use mathlib.Core.List.{List, [], _∷_, _++_}
+use Prim.Native.Nat.{ℕ, _+_, _*_}
+use lib.ListN.{length}
+use lib.Dec.{eqb, ltb}
+use borrow.Author.Tests.{eqb-false}
+use Rattle.codes.specs.declared.Symbol.{Symbol}
+use Rattle.codes.specs.Numbers.{DONE, BADMODE, NOROOM, RUNOUT, NOCHIP, LOST, PREAMBLE, BADSTART, RESERVED, MORE}
+use Rattle.codes.specs.Chips.{bad, among}
+use Rattle.codes.specs.Radio.{Radio, known, radioOf}
+use Rattle.codes.specs.Symbol.{valued, symbolOf}
+use Rattle.codes.proofs.Tests.{by-pick, not-both}
+use Rattle.frame.specs.Frame.{startOctet, perOctet}
+use Rattle.reader.specs.Order.{Answer, refused, done, both, ends, rules, values, verdict, concluded, taking, readingFrom, reading, whole}
+use Rattle.reader.specs.Read.{answerAt}
+use Rattle.reader.specs.Received.{received}
+
+-- those of the reading order
+abbrev pub refusals : List ℕ
+refusals = NOROOM ∷ RUNOUT ∷ NOCHIP ∷ LOST ∷ PREAMBLE ∷ BADSTART ∷ RESERVED ∷ []
+
+-- an answer is done, or refuses with one of these
+abbrev pub Fair : Answer → Type 0
+Fair (refused x place) = among x refusals ≡ true
+Fair (done place report count) = Unit {0}
+
+-- a symbol that isn't read
+symbol-fair : (r : Radio) (w : List ℕ) → (symbolOf r w .number ≡ DONE → ⊥) → among (symbolOf r w .number) refusals ≡ true
+unfolding symbolOf valued
+symbol-fair r w =
+    by-pick P (bad w) _ _ (λ _ n. refl) (λ _. by-pick P (ltb _ (length (r .words))) _ _ (λ _ n. absurd (n refl)) (λ _ n. refl))
+  where
+    P : Symbol → Type 0
+    P z = (z .number ≡ DONE → ⊥) → among (z .number) refusals ≡ true
+
+-- a rule that ends the reading without success
+rules-fair : (per room s raw start n : ℕ) → (rules per room s raw start n ≡ MORE → ⊥) → (rules per room s raw start n ≡ DONE → ⊥)
+    → among (rules per room s raw start n) refusals ≡ true
+unfolding rules
+rules-fair per room s raw start n =
+    by-pick P (both (ltb s (4 * per)) (not (eqb raw 0))) _ _ (λ _ m d. refl)
+    (λ _. by-pick P (both (ends per 4 s) (not (eqb start startOctet))) _ _ (λ _ m d. refl)
+    (λ _. by-pick P (both (ends per 5 s) (ltb 127 n)) _ _ (λ _ m d. refl)
+    (λ _. by-pick P (both (ends per 5 s) (ltb room n)) _ _ (λ _ m d. refl)
+    (λ _. by-pick P (ends per (5 + n) s) _ _ (λ _ m d. absurd (d refl)) (λ _ m d. absurd (m refl))))))
+  where
+    P : ℕ → Type 0
+    P z = (z ≡ MORE → ⊥) → (z ≡ DONE → ⊥) → among z refusals ≡ true
+
+-- What is true of each way that a reading can end is true of every reading: no chips left, a symbol
+-- that isn't read, a rule that refuses, done.
+module _ (r : Radio) (room : ℕ) (P : Answer → Type 0) (out : (s : ℕ) → P (refused RUNOUT s))
+    (unread : (s : ℕ) (w : List ℕ) → (symbolOf r w .number ≡ DONE → ⊥) → P (refused (symbolOf r w .number) s))
+    (refusing : (s raw start n : ℕ) → (rules (perOctet r) room s raw start n ≡ MORE → ⊥) → (rules (perOctet r) room s raw start n ≡ DONE → ⊥)
+    → P (refused (rules (perOctet r) room s raw start n) s))
+    (well : (place : ℕ) (report : List ℕ) (count : ℕ) → P (done place report count)) where
+  -- a symbol in hand, where what follows it is so
+  taking-ways : (before : List Symbol) (w : List ℕ) (next : Answer) → P next → P (taking r room before (symbolOf r w) next)
+  unfolding taking concluded
+  taking-ways before w next f =
+      by-pick P (eqb (symbolOf r w .number) DONE) _ _
+      (λ _. by-pick P (eqb x MORE) _ _ (λ _. f)
+      (λ m. by-pick P (eqb x DONE) _ _ (λ _. well _ _ _) (λ d. refusing (length before) _ _ _ (eqb-false x MORE m) (eqb-false x DONE d))))
+      (λ n. unread (length before) w (eqb-false (symbolOf r w .number) DONE n))
+    where
+      x : ℕ
+      x = verdict r room (length before) (received r (values (before ++ symbolOf r w ∷ [])))
+
+  from-ways : (before : List Symbol) (ws : List (List ℕ)) → P (readingFrom r room before ws)
+  unfolding readingFrom
+  from-ways before [] = out (length before)
+  from-ways before (w ∷ ws) = taking-ways before w _ (from-ways (before ++ symbolOf r w ∷ []) ws)
+
+  pub reading-ways : (chips : List ℕ) → P (reading r room chips)
+  unfolding reading
+  reading-ways chips = from-ways [] (whole r chips)
+
+-- the reading of a whole buffer
+pub answer-fair : (r : Radio) (room : ℕ) (chips : List ℕ) → Fair (reading r room chips)
+answer-fair r room =
+    reading-ways r room Fair (λ s. refl) (λ s w. symbol-fair r w) (λ s raw start n. rules-fair (perOctet r) room s raw start n) (λ place report count. tt)
+
+-- done is none of these numbers
+pub done-unfair : (x : ℕ) → x ≡ DONE → among x refusals ≡ true → ⊥
+done-unfair x z f = not-both false (rw z at f) refl
+
+-- an answer of the reader, whatever the mode, is done or refuses with another number
+abbrev pub Told : Answer → Type 0
+Told (refused x place) = x ≡ DONE → ⊥
+Told (done place report count) = Unit {0}
+
+pub answer-told : (mode room : ℕ) (chips : List ℕ) → Told (answerAt mode room chips)
+unfolding answerAt
+answer-told mode room chips =
+    by-pick Told (known mode) _ _ (λ _. go (reading (radioOf mode) room chips) (answer-fair _ _ _)) (λ _ e. absurd (eqb-false BADMODE DONE refl e))
+  where
+    go : (a : Answer) → Fair a → Told a
+    go (refused x place) f = λ z. done-unfair x z f
+    go (done place report count) f = tt
