@@ -33,10 +33,11 @@
  * in a row (an octet's lowest bit goes first). So up to three wrong bits are always found, and one
  * misread symbol of a report: its bits lie side by side, and in mode 0 it turns its own bit and the
  * next.
- * What the checked one can't find: other errors pass about once in 65,536 times, a misread length
- * among them. A frame of somebody else's making, or an old one sent again, has a right FCS, too.
- * And octets that are all 0 have the FCS 0, which would pass: hence LERNAZHUP_ALLZERO, since zeros
- * are what an unplugged rope gives.
+ * What the checked one can't find: other errors, a misread length among them, pass about once in
+ * 65,536 times, and in mode 0, where a misread symbol turns two bits, once in 32,768. A frame of
+ * somebody else's making, or an old one sent again, has a right FCS, too. And octets that are all 0
+ * have the FCS 0, which would pass: hence LERNAZHUP_ALLZERO, since zeros are what an unplugged rope
+ * gives.
  *
  * Who finds the frame: the caller. The first chip of a buffer is taken for the first chip of the
  * preamble, and no other beginning is looked for. In a stream, try one chip after the other as the

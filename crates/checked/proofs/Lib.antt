@@ -1,6 +1,7 @@
--- Laws of the profile's tests, of the octets appended, and of the room.
+-- Laws of the profile's tests and what they catch, of the octets appended, and of the room.
 pub mod Tests
 pub mod Passing
+pub mod Caught
 pub mod Appended
 pub mod Writer
 pub mod Room

@@ -9,7 +9,7 @@ use native.Mathlib.Omega.{arith}
 use lib.Dec.{eqb, ltb}
 use lib.ListN.{length, getD, drop, replicate, take-append-drop}
 use lib.Seq.{take-at, drop-at}
-use borrow.Author.Tests.{lt-ltb, le-ltb, eq-eqb, eqb-true, eqb-false, ltb-true, ltb-false}
+use borrow.Author.Tests.{eq-eqb, eqb-true, eqb-false, ltb-true, ltb-false}
 use Rattle.codes.specs.Numbers.{DONE, TOOFEW, BADCHECK, ALLZERO}
 use Rattle.codes.specs.Chips.{among}
 use Rattle.codes.proofs.Tests.{by-test, by-pick, both-true, not-both}
@@ -18,7 +18,7 @@ use Rattle.reader.specs.Received.{valueOf}
 use Rattle.fcs.specs.Fcs.{fcsOf, fcsOctets, withFcs}
 use Rattle.fcs.proofs.Remainder.{zeros-pass, with-long}
 use Rattle.checked.specs.Profile.{allZero, body, rightFcs, checkOf}
-use Rattle.checked.proofs.Tests.{last-pair, last-two}
+use Rattle.checked.proofs.Tests.{short-check, wrong-check, zero-check, right-check, last-pair, last-two}
 
 -- every octet 0: nothing but zeros
 pub zeros-are : (xs : List ℕ) → allZero xs ≡ true → xs ≡ replicate (length xs) 0
@@ -68,30 +68,19 @@ with-zeros : (n : ℕ) → withFcs (replicate n 0) ≡ replicate (n + 2) 0
 with-zeros n = zeros-more n (fcsOctets (replicate n 0)) (rw (zeros-pass n))
 
 -- so they have a right one
-pub zeros-right : (octets : List ℕ) → 3 ≤ length octets → octets ≡ replicate (length octets) 0 → rightFcs octets ≡ true
+zeros-right : (octets : List ℕ) → 3 ≤ length octets → octets ≡ replicate (length octets) 0 → rightFcs octets ≡ true
 zeros-right octets h e =
     let k = length octets - 2 in
     let n : length octets ≡ k + 2 = omega arith in
     ap rightFcs (e ∙ ap (λ (i : ℕ). replicate i 0) n ∙ sym (with-zeros k)) ∙ with-right (replicate k 0)
 
--- the first test
-pub short-check : (octets : List ℕ) → length octets < 3 → checkOf octets ≡ TOOFEW
-unfolding checkOf
-short-check octets h = rw (lt-ltb (length octets) 3 h)
+-- three octets or more that don't end in their FCS
+pub check-wrong : (octets : List ℕ) → Below 256 octets → 3 ≤ length octets → (octets ≡ withFcs (body octets) → ⊥) → checkOf octets ≡ BADCHECK
+check-wrong octets p h n = wrong-check octets h (by-test (rightFcs octets) (λ r. absurd (n (right-with octets p h r))) (λ f. f))
 
--- the two others of three octets or more
-module _ (octets : List ℕ) (h : 3 ≤ length octets) where
-  pub wrong-check : rightFcs octets ≡ false → checkOf octets ≡ BADCHECK
-  unfolding checkOf
-  wrong-check f = rw (le-ltb (length octets) 3 h, f)
-
-  pub zero-check : rightFcs octets ≡ true → allZero octets ≡ true → checkOf octets ≡ ALLZERO
-  unfolding checkOf
-  zero-check r z = rw (le-ltb (length octets) 3 h, r, z)
-
-  right-check : rightFcs octets ≡ true → allZero octets ≡ false → checkOf octets ≡ DONE
-  unfolding checkOf
-  right-check r z = rw (le-ltb (length octets) 3 h, r, z)
+-- three zeros or more
+pub check-zeros : (octets : List ℕ) → 3 ≤ length octets → octets ≡ replicate (length octets) 0 → checkOf octets ≡ ALLZERO
+check-zeros octets h e = zero-check octets h (zeros-right octets h e) (ap allZero e ∙ are-zeros (length octets))
 
 -- a report that passes has passed each test
 check-parts : (octets : List ℕ) → checkOf octets ≡ DONE → (3 ≤ length octets) × (rightFcs octets ≡ true) × (allZero octets ≡ false)

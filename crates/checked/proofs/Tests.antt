@@ -36,43 +36,56 @@ pub zeros-all : (octets : List ℕ) (i : ℕ) → Zeros octets i → length octe
 unfolding allZero
 zeros-all octets i z h = sym (z .1 ∙ rw (drop-of-length-le octets h))
 
--- the four ways of the tests
-module _ (octets : List ℕ) where
-  pub too-few : length octets < 3 → TOOFEW ≡ checkOf octets
+-- the first test
+pub short-check : (octets : List ℕ) → length octets < 3 → checkOf octets ≡ TOOFEW
+unfolding checkOf
+short-check octets h = rw (lt-ltb (length octets) 3 h)
+
+module _ (octets : List ℕ) (h : 3 ≤ length octets) where
+  -- the two others
+  pub wrong-check : rightFcs octets ≡ false → checkOf octets ≡ BADCHECK
   unfolding checkOf
-  too-few h = rw (lt-ltb (length octets) 3 h)
+  wrong-check f = rw (le-ltb (length octets) 3 h, f)
 
-  module _ (h : 3 ≤ length octets) where
-    abbrev k : ℕ
-    k = length octets - 2
+  pub zero-check : rightFcs octets ≡ true → allZero octets ≡ true → checkOf octets ≡ ALLZERO
+  unfolding checkOf
+  zero-check r z = rw (le-ltb (length octets) 3 h, r, z)
 
-    -- the last two octets
-    pub last-pair : drop k octets ≡ getD octets k 0 ∷ getD octets (k + 1) 0 ∷ []
-    last-pair =
-        let none : length octets ≤ suc (suc k) = omega arith in
-        drop-cons octets k 0 (omega arith)
-        ∙ rw (add-one k)
-        (ap (λ (xs : List ℕ). getD octets k 0 ∷ xs)
-        (drop-cons octets (suc k) 0 (omega arith) ∙ ap (λ (xs : List ℕ). getD octets (suc k) 0 ∷ xs) (drop-of-length-le octets none)))
+  pub right-check : rightFcs octets ≡ true → allZero octets ≡ false → checkOf octets ≡ DONE
+  unfolding checkOf
+  right-check r z = rw (le-ltb (length octets) 3 h, r, z)
 
-    -- as one number
-    pub last-two : valueOf 256 (drop k octets) ≡ getD octets k 0 + 256 * getD octets (k + 1) 0
-    unfolding valueOf
-    last-two = ap (valueOf 256) last-pair ∙ omega arith
+  abbrev k : ℕ
+  k = length octets - 2
 
-    module _ (fcs sent : ℕ) (e : fcs ≡ fcsOf (take k octets)) (s : sent ≡ getD octets k 0 + 256 * getD octets (k + 1) 0) where
-      right-is : rightFcs octets ≡ eqb sent fcs
-      right-is = rw (last-two, e, s)
+  -- the last two octets
+  pub last-pair : drop k octets ≡ getD octets k 0 ∷ getD octets (k + 1) 0 ∷ []
+  last-pair =
+      let none : length octets ≤ suc (suc k) = omega arith in
+      drop-cons octets k 0 (omega arith)
+      ∙ rw (add-one k)
+      (ap (λ (xs : List ℕ). getD octets k 0 ∷ xs)
+      (drop-cons octets (suc k) 0 (omega arith) ∙ ap (λ (xs : List ℕ). getD octets (suc k) 0 ∷ xs) (drop-of-length-le octets none)))
 
-      pub wrong : (fcs ≡ sent → ⊥) → BADCHECK ≡ checkOf octets
-      unfolding checkOf
-      wrong n = rw (le-ltb (length octets) 3 h, right-is, ne-eqb sent fcs (λ q. n (sym q)))
+  -- as one number
+  pub last-two : valueOf 256 (drop k octets) ≡ getD octets k 0 + 256 * getD octets (k + 1) 0
+  unfolding valueOf
+  last-two = ap (valueOf 256) last-pair ∙ omega arith
 
-      module _ (q : fcs ≡ sent) (zero : Bool) (z : zero ≡ allZero octets) where
-        pub zeros : zero ≡ true → ALLZERO ≡ checkOf octets
-        unfolding checkOf
-        zeros t = rw (le-ltb (length octets) 3 h, right-is, eq-eqb sent fcs (sym q), ← z, t)
+  -- what the code compares, and what it finds of zeros
+  module _ (fcs sent : ℕ) (e : fcs ≡ fcsOf (take k octets)) (s : sent ≡ getD octets k 0 + 256 * getD octets (k + 1) 0) where
+    right-is : rightFcs octets ≡ eqb sent fcs
+    right-is = rw (last-two, e, s)
 
-        pub passes : zero ≡ false → DONE ≡ checkOf octets
-        unfolding checkOf
-        passes t = rw (le-ltb (length octets) 3 h, right-is, eq-eqb sent fcs (sym q), ← z, t)
+    pub wrong : (fcs ≡ sent → ⊥) → BADCHECK ≡ checkOf octets
+    wrong n = sym (wrong-check (right-is ∙ ne-eqb sent fcs (λ q. n (sym q))))
+
+    module _ (q : fcs ≡ sent) (zero : Bool) (z : zero ≡ allZero octets) where
+      right : rightFcs octets ≡ true
+      right = right-is ∙ eq-eqb sent fcs (sym q)
+
+      pub zeros : zero ≡ true → ALLZERO ≡ checkOf octets
+      zeros t = sym (zero-check right (sym z ∙ t))
+
+      pub passes : zero ≡ false → DONE ≡ checkOf octets
+      passes t = sym (right-check right (sym z ∙ t))

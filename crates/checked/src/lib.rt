@@ -97,7 +97,7 @@ fn with_fcs(report: &[u8]) -> [u8; 127]
     ensures { λ r. ⌜ take (length (now (report .entry)) + 2) r ≡ withFcs (now (report .entry)) ⌝ }
     ensures { λ r. ⌜ length r ≡ 127 ⌝ }
 {
-    let fcs = fcs::by_table(report);
+    let sequence = fcs::by_table(report);
     let n = report.len();
     let mut octets = aside();
     let mut i: usize = 0;
@@ -105,8 +105,8 @@ fn with_fcs(report: &[u8]) -> [u8; 127]
         octets[i] = report[i];
         i += 1;
     }
-    octets[n] = (fcs % 256) as u8;
-    octets[n + 1] = (fcs / 256) as u8;
+    octets[n] = (sequence % 256) as u8;
+    octets[n + 1] = (sequence / 256) as u8;
     octets
 }
 

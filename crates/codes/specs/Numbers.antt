@@ -10,7 +10,7 @@ DONE = 0
 abbrev pub BADMODE : ℕ
 BADMODE = 1
 
--- report longer than 127
+-- report longer than 127 (checked: 125)
 abbrev pub TOOLONG : ℕ
 TOOLONG = 2
 

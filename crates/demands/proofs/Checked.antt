@@ -2,8 +2,8 @@
 -- the plain one does, but for a report that doesn't pass, which it refuses with the number of its
 -- first test, at the frame's number of symbols and with nothing stored. So it is done exactly when
 -- the plain reader is, with a report that passes; what it stores is never nothing but zeros; and
--- what the checked writer wrote it reads, FCS included. A refusal of either leaves every byte.
--- Assumes nothing.
+-- what the checked writer wrote it reads, FCS included. A refusal of either leaves every byte. And
+-- the tests asked of what take gave answer the checked reader's number. Assumes nothing.
 use mathlib.Core.Path.{_≡_, refl, sym, ap, _∙_}
 use mathlib.Core.Logic.{_↔_}
 use mathlib.Core.Bool.{true, false}
@@ -25,22 +25,24 @@ use Rattle.frame.specs.Frame.{symbols, frame}
 use Rattle.frame.specs.Write.{unwritten, written}
 use Rattle.frame.proofs.Below.{Below, at-below, below-at}
 use Rattle.reader.specs.declared.Reading.{Reading}
-use Rattle.reader.specs.Order.{Answer, refused, done}
+use Rattle.reader.specs.Order.{Answer, refused, done, whole}
 use Rattle.reader.specs.Read.{told, left, answerAt, answered, readOf}
 use Rattle.reader.proofs.Fair.{Told, answer-told}
+use Rattle.receiver.specs.Record.{startOf, takeOf}
 use Rattle.fcs.specs.Fcs.{fcsOctets, withFcs}
 use Rattle.fcs.proofs.Remainder.{with-long, with-below}
-use Rattle.checked.specs.Profile.{allZero, body, rightFcs, checkOf, checkedAnswer, readCheckedOf, writtenChecked}
-use Rattle.checked.proofs.Passing.{short-check, wrong-check, zero-check, zeros-right, are-zeros, right-with}
-use Rattle.checked.proofs.Passing.{not-zeros, passes-check, check-passes, check-numbers, zeros-are, with-body}
+use Rattle.checked.specs.Profile.{allZero, body, checkOf, checkedAnswer, readCheckedOf, writtenChecked}
+use Rattle.checked.proofs.Tests.{short-check}
+use Rattle.checked.proofs.Passing.{check-wrong, check-zeros, not-zeros, passes-check, check-passes, check-numbers, are-zeros, zeros-are, with-body}
 use Rattle.demands.specs.Words.{Report, success}
-use Rattle.demands.specs.Calls.{tells}
+use Rattle.demands.specs.Calls.{Call, after, counted, inOrder, tells}
 use Rattle.demands.specs.Profile.{Passes}
-use Rattle.demands.proofs.Demand1.{leaves, read-numbers, write-refused, write-numbers}
+use Rattle.demands.proofs.Demand1.{leaves, read-bad-mode, read-numbers, write-refused, write-numbers}
 use Rattle.demands.proofs.Demand2.{read-back}
 use Rattle.demands.proofs.Demand3.{answer-room}
 use Rattle.demands.proofs.Path.{same-parts}
 use Rattle.demands.proofs.Given.{among-pass}
+use Rattle.demands.proofs.Stepped.{steps-read}
 use Rattle.demands.proofs.Reader.{told-done, success-answers, reads-report}
 
 -- ---- the reader, over the plain one
@@ -50,6 +52,17 @@ stays : (a : Answer) (buffer : List ℕ) → (told a .number ≡ DONE → ⊥) �
 unfolding checkedAnswer told
 stays (refused x place) buffer n = refl
 stays (done place report count) buffer n = absurd (n refl)
+
+-- what the plain reader reads are octets
+read-octets : (mode : ℕ) (chips buffer report : List ℕ) (count : ℕ) → readOf mode chips buffer ≡ success mode buffer report count → Below 256 report
+read-octets mode chips buffer report count o =
+    by-test (known mode)
+    (λ k.
+    let h = answer-room (radioOf mode) (sound mode) (length buffer) chips report count (success-answers mode k chips buffer report count .0 o) in
+    at-below 256 report (reads-report mode k chips buffer report count h .0 o .0 .octets))
+    (λ f.
+    let e = sym (read-bad-mode mode chips buffer f) ∙ o in
+    absurd (eqb-false BADMODE DONE refl (ap (λ (r : Outcome Reading). r .answer .number) e)))
 
 module _ (mode : ℕ) (chips buffer : List ℕ) where
   -- A refusal of the plain reader stays as it is.
@@ -82,13 +95,12 @@ module _ (mode : ℕ) (chips buffer : List ℕ) where
     checked-few h = refused-with TOOFEW (short-check report h) refl
 
     -- Three or more that don't end in their FCS are 15.
-    pub checked-wrong : 3 ≤ length report → (report ≡ withFcs (body report) → ⊥) → Below 256 report → Refused BADCHECK
-    checked-wrong h n p =
-        refused-with BADCHECK (wrong-check report h (by-test (rightFcs report) (λ r. absurd (n (right-with report p h r))) (λ f. f))) refl
+    pub checked-wrong : 3 ≤ length report → (report ≡ withFcs (body report) → ⊥) → Refused BADCHECK
+    checked-wrong h n = refused-with BADCHECK (check-wrong report (read-octets mode chips buffer report count o) h n) refl
 
     -- And three or more zeros are 16.
     pub checked-zeros : 3 ≤ length report → report ≡ replicate (length report) 0 → Refused ALLZERO
-    checked-zeros h e = refused-with ALLZERO (zero-check report h (zeros-right report h e) (ap allZero e ∙ are-zeros (length report))) refl
+    checked-zeros h e = refused-with ALLZERO (check-zeros report h e) refl
 
 -- a reading that is done in this profile was done in the plain one, with a report that passes the
 -- tests
@@ -117,17 +129,21 @@ stored (done place report count) f buffer =
     not-zeros report (eqb-true (checkOf report) DONE t) (sym (take-at report (drop (length report) buffer) (length report) refl) ∙ z)))
     (λ g. rw g (λ e z. eqb-false (checkOf report) DONE g e))
 
+-- Octets pass the tests exactly when they are such.
+pub check-done : (octets : List ℕ) → Below 256 octets → (checkOf octets ≡ DONE) ↔ Passes octets
+check-done octets p = (
+  λ e. let c = passes-check octets p e in record { long = omega (arith, c .0); ends = c .1; some = not-zeros octets e },
+  λ q. check-passes octets (q .long) (q .ends) (q .some),
+)
+
 -- Done exactly when the plain reader is, with a report that passes.
-pub checked-done : (mode : ℕ) → known mode ≡ true → (chips buffer report : List ℕ) (count : ℕ)
+pub checked-done : (mode : ℕ) (chips buffer report : List ℕ) (count : ℕ)
     → (readCheckedOf mode chips buffer ≡ success mode buffer report count) ↔ ((readOf mode chips buffer ≡ success mode buffer report count) × Passes report)
-checked-done mode k chips buffer report count = (
+checked-done mode chips buffer report count = (
   λ o.
       let p = told-checked mode buffer report count (answerAt mode (length buffer) chips) (answer-told mode (length buffer) chips) o in
-      let h = answer-room (radioOf mode) (sound mode) (length buffer) chips report count (success-answers mode k chips buffer report count .0 (p .0)) in
-      let R = reads-report mode k chips buffer report count h .0 (p .0) .0 in
-      let c = passes-check report (at-below 256 report (R .octets)) (p .1) in
-      (p .0, record { long = omega (arith, c .0); ends = c .1; some = not-zeros report (p .1) }),
-  λ q. checked-passed mode chips buffer report count (q .0) (check-passes report (q .1 .long) (q .1 .ends) (q .1 .some)),
+      (p .0, check-done report (read-octets mode chips buffer report count (p .0)) .0 (p .1)),
+  λ q. checked-passed mode chips buffer report count (q .0) (check-done report (read-octets mode chips buffer report count (q .0)) .1 (q .1)),
 )
 
 -- What a reading that is done in this profile stored is not nothing but zeros, whatever the mode
@@ -149,8 +165,13 @@ checked-ways mode report buffer P m f l z w =
     (λ _. by-pick P (ltb 125 (length report)) _ _ (λ _. l) (λ _. by-pick P (allZero report) _ _ (λ _. z) (λ _. w))))
     (λ _. m)
 
--- The tests of a writing, in their order: an empty report is 14; one above 125 octets 2, zeros too;
--- zeros 16, whatever room there is. What is left is written with its FCS.
+-- The tests of a writing, in their order: a mode that has no radio is 1, whatever the report; an
+-- empty report is 14; one above 125 octets 2, zeros too; zeros 16, whatever room there is. What is
+-- left is written with its FCS.
+pub checked-bad-mode : (mode : ℕ) (report buffer : List ℕ) → known mode ≡ false → writtenChecked mode report buffer ≡ unwritten BADMODE buffer
+unfolding writtenChecked
+checked-bad-mode mode report buffer k = rw k
+
 module _ (mode : ℕ) (k : known mode ≡ true) (buffer : List ℕ) where
   pub write-empty : writtenChecked mode [] buffer ≡ unwritten TOOFEW buffer
   unfolding writtenChecked
@@ -249,5 +270,33 @@ module _ (mode : ℕ) (k : known mode ≡ true) (report : List ℕ) (octets : Be
       → readCheckedOf mode (writtenChecked mode report chips .buffer) buffer ≡ success mode buffer (withFcs report) 0
   checked-read-back chips buffer h l =
       rw (write-whole mode k chips report one short some)
-      (checked-done mode k (written mode (withFcs report) chips .buffer) buffer (withFcs report) 0 .1
+      (checked-done mode (written mode (withFcs report) chips .buffer) buffer (withFcs report) 0 .1
       (read-back mode k (withFcs report) chips buffer (with-report report octets short) h (omega (arith, with-long report)), with-passes))
+
+-- ---- asked after take
+
+-- an answer that is done
+asked : (a : Answer) → Told a → (buffer : List ℕ) → told a .number ≡ DONE
+    → told (checkedAnswer a) .number ≡ checkOf (take (told a .n) (left a buffer))
+unfolding checkedAnswer told left
+asked (refused x place) f buffer e = absurd (f e)
+asked (done place report count) f buffer e =
+    let same : take (length report) (report ++ drop (length report) buffer) ≡ report = take-at report (drop (length report) buffer) (length report) refl in
+    by-test (eqb (checkOf report) DONE) (λ t. rw (t, same) (sym (eqb-true (checkOf report) DONE t))) (λ g. rw (g, same))
+
+-- What the tests say of a report that the plain reader stored is the checked reader's number.
+pub check-after-read : (mode : ℕ) (chips buffer : List ℕ) → readOf mode chips buffer .answer .number ≡ DONE
+    → readCheckedOf mode chips buffer .answer .number ≡ checkOf (take (readOf mode chips buffer .answer .n) (readOf mode chips buffer .buffer))
+check-after-read mode chips buffer = asked (answerAt mode (length buffer) chips) (answer-told mode (length buffer) chips) buffer
+
+-- And so is what they say of a report that take gave, after the buffer's symbols in order, whatever
+-- calls that answered 10, 11 or 12 came between.
+pub check-after-take : (mode : ℕ) (chips buffer : List ℕ) → length buffer ≡ 127 → (xs : List Call)
+    → counted (startOf mode .receiver) xs ≡ inOrder (startOf mode .receiver) (whole (radioOf mode) chips)
+    → takeOf (after (startOf mode .receiver) xs) buffer .answer .number ≡ DONE
+    → readCheckedOf mode chips buffer .answer .number
+    ≡ checkOf (take (takeOf (after (startOf mode .receiver) xs) buffer .answer .n) (takeOf (after (startOf mode .receiver) xs) buffer .buffer))
+check-after-take mode chips buffer l xs e d =
+    let s = steps-read mode chips buffer l xs e in
+    check-after-read mode chips buffer (ap (λ (o : Outcome Reading). o .answer .number) (sym s) ∙ d)
+    ∙ ap (λ (o : Outcome Reading). checkOf (take (o .answer .n) (o .buffer))) (sym s)

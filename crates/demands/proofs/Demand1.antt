@@ -85,6 +85,11 @@ written-ways mode report buffer P m t n w =
     (λ _. by-pick P (ltb (length buffer) (length (frame (radioOf mode) report))) _ _ (λ _. n) (λ _. w)))
     (λ _. m)
 
+-- A mode that has no radio: its number, before anything else.
+pub write-bad-mode : (mode : ℕ) (report buffer : List ℕ) → known mode ≡ false → written mode report buffer ≡ unwritten BADMODE buffer
+unfolding written
+write-bad-mode mode report buffer k = rw k
+
 -- A refused writing: chip count 0, buffer unchanged.
 pub write-refused : (mode : ℕ) (report buffer : List ℕ) → (written mode report buffer .answer .number ≡ DONE → ⊥)
     → (written mode report buffer .answer .chips ≡ 0) × (written mode report buffer .buffer ≡ buffer)

@@ -24,11 +24,11 @@ pub mod Reader
 pub mod Demand2
 pub mod Demand1
 pub mod Given
-pub mod Spread
-pub mod Checked
-pub mod Misread
 pub mod Stray
 pub mod Made
 pub mod Forged
 pub mod Holds
 pub mod Stepped
+pub mod Checked
+pub mod Spread
+pub mod Misread

@@ -16,21 +16,19 @@ use Rattle.codes.specs.Numbers.{DONE, BADCHECK}
 use Rattle.codes.specs.Radio.{Radio, Sound, known, radioOf}
 use Rattle.codes.specs.Chips.{distance}
 use Rattle.codes.specs.Symbol.{symbolOf}
-use Rattle.codes.proofs.Tests.{by-test}
 use Rattle.codes.proofs.Facts.{sound}
 use Rattle.codes.proofs.Unique.{Reads, of-symbol}
 use Rattle.frame.specs.Frame.{startOctet, octets, perOctet, raws, encode, symbols}
-use Rattle.frame.proofs.Below.{Below, below-at, below-take, below-set}
+use Rattle.frame.proofs.Below.{Below, below-at, below-set}
 use Rattle.frame.proofs.Count.{raws-below, symbols-long, symbols-below}
 use Rattle.reader.specs.Received.{decode, octetAt, octetsFrom}
 use Rattle.reader.specs.Order.{window, whole, repaired, reading}
 use Rattle.reader.proofs.Raw.{per-positive, bits-pos, decode-long, decode-below, octets-long, size-pos}
 use Rattle.reader.proofs.Windows.{whole-long, whole-at, seen}
 use Rattle.fcs.specs.Fcs.{bits, withFcs}
-use Rattle.fcs.proofs.Catches.{never-within-16}
 use Rattle.fcs.proofs.Remainder.{with-long}
-use Rattle.checked.specs.Profile.{body, rightFcs, checkOf, readCheckedOf}
-use Rattle.checked.proofs.Passing.{right-with, wrong-check}
+use Rattle.checked.specs.Profile.{checkOf, readCheckedOf}
+use Rattle.checked.proofs.Caught.{run-caught}
 use Rattle.fcs.proofs.Bits.{bits-append, bits-long}
 use Rattle.demands.specs.Words.{Report}
 use Rattle.demands.specs.Calls.{tells}
@@ -197,29 +195,21 @@ module _ (mode : ℕ) (k : known mode ≡ true) (report : List ℕ) (o : Below 2
   abbrev got : List ℕ
   got = other r (sound mode) sent P s v h v-known
 
+  long : length got ≡ length report + 2
+  long = other-long r (sound mode) sent P s v h v-known ∙ with-long report
+
+  -- it is another report
+  another : sent ≡ got → ⊥
+  another e =
+      n
+      (sym
+      (ap (λ (xs : List ℕ). getD xs s 0) (ap (symbols r) e ∙ other-symbols r (sound mode) sent P s v h v-known)
+      ∙ getD-set-same (symbols r sent) s v 0 l))
+
   got-wrong : checkOf got ≡ BADCHECK
-  got-wrong = wrong-check got (omega (arith, long, with-long report, one)) (by-test (rightFcs got) (λ t. absurd (same-clash (right t))) (λ f. f))
-    where
-      long : length got ≡ length sent
-      long = other-long r (sound mode) sent P s v h v-known
-
-      -- another report cannot end in its FCS
-      right : rightFcs got ≡ true → sent ≡ got
-      right t =
-          let w = right-with got (other-below r (sound mode) sent P s v h v-known) (omega (arith, long, with-long report, one)) t in
-          let q : length report ≡ length (body got) = omega (arith, ap length w, with-long (body got), long, with-long report) in
-          let b : Below 256 (body got) = below-take 256 (length got - 2) got (other-below r (sound mode) sent P s v h v-known) in
-          let e = never-within-16 report (body got) o b q (s * r .bits - 48)
-          (λ i d. bits-within r (sound mode) sent P s v h v-known i (λ z. d (z ∙ ap (λ (xs : List ℕ). getD (bits xs) i 0) w))) in
-          ap withFcs e ∙ sym w
-
-      -- for its symbols are other ones
-      same-clash : sent ≡ got → ⊥
-      same-clash e =
-          n
-          (sym
-          (ap (λ (xs : List ℕ). getD xs s 0) (ap (symbols r) e ∙ other-symbols r (sound mode) sent P s v h v-known)
-          ∙ getD-set-same (symbols r sent) s v 0 l))
+  got-wrong =
+      run-caught report got o (other-below r (sound mode) sent P s v h v-known) long one another (s * r .bits - 48)
+      (bits-within r (sound mode) sent P s v h v-known)
 
   -- It is 15, at the frame's number of symbols, with nothing stored.
   pub one-misread : (buffer : List ℕ) → length report + 2 ≤ length buffer
@@ -229,11 +219,10 @@ module _ (mode : ℕ) (k : known mode ≡ true) (report : List ℕ) (o : Below 2
       let S = sound mode in
       let vs = set (symbols r sent) s v in
       let q = other-symbols r S sent P s v h v-known in
-      let long = other-long r S sent P s v h v-known in
       let R : Report got =
-      record { short = omega (arith, long, P .short); octets = below-at 256 got (other-below r S sent P s v h v-known) } in
+      record { short = omega (arith, long, short); octets = below-at 256 got (other-below r S sent P s v h v-known) } in
       let T = rw (← q) at (read-stands r S chips vs A) in
-      let a = windows-answer r S (length buffer) (whole r chips) got R (omega (arith, long, with-long report, room)) _ T in
+      let a = windows-answer r S (length buffer) (whole r chips) got R (omega (arith, long, room)) _ T in
       let out = success-answers mode k chips buffer got _ .1 a in
       checked-refused mode chips buffer got _ out (λ z. eqb-false BADCHECK DONE refl (sym got-wrong ∙ z))
       ∙ ap₂ (λ x place. tells x place buffer) got-wrong (ap length q ∙ length-set (symbols r sent) s v)

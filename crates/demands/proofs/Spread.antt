@@ -15,7 +15,8 @@ use borrow.Author.Tests.{eqb-true, eqb-false, ltb-true, ltb-false}
 use Rattle.codes.specs.Radio.{Radio, Sound}
 use Rattle.codes.proofs.Tests.{by-test}
 use Rattle.frame.specs.Frame.{perOctet, digits, rawOf, raws}
-use Rattle.frame.proofs.Count.{digits-long}
+use Rattle.frame.proofs.Count.{digits-long, digits-nought}
+use Rattle.frame.proofs.Below.{below-at}
 use Rattle.fcs.specs.Fcs.{bits}
 
 -- the bits of numbers of b bits each, one after the other
@@ -60,17 +61,11 @@ bits-raws r S [] = refl
 bits-raws r S (x ∷ xs) =
     rw (bits-of-append (r .bits) (rawOf r x) (raws r xs), bits-digits (r .bits) (perOctet r) x, S .divides, bits-raws r S xs)
 
--- the bits of 0 are 0
-zero-at : (m i : ℕ) → getD (digits m 2 0) i 0 ≡ 0
-unfolding digits
-zero-at zero i = refl
-zero-at (suc m) zero = refl
-zero-at (suc m) (suc i) = zero-at m i
-
 -- bit i is one of number i / b
 bit-at : (b : ℕ) → 0 < b → (vs : List ℕ) (i : ℕ) → getD (bitsOf b vs) i 0 ≡ getD (digits b 2 (getD vs (i / b) 0)) (i % b) 0
 unfolding bitsOf
-bit-at b h [] i = sym (zero-at b (i % b))
+bit-at b h [] i =
+    omega (arith, below-at 1 (digits b 2 0) (digits-nought b 2) (i % b) (omega (arith, mod-lt i h, digits-long b 2 0)))
 bit-at b h (v ∷ vs) i =
     by-test (ltb i b)
     (λ t.

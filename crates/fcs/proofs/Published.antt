@@ -15,3 +15,10 @@ acknowledgement = refl
 pub nine-digits : fcsOf (0x31 ∷ 0x32 ∷ 0x33 ∷ 0x34 ∷ 0x35 ∷ 0x36 ∷ 0x37 ∷ 0x38 ∷ 0x39 ∷ []) ≡ 0x2189
 unfolding fcsOf bits digits registerAfter entered
 nine-digits = refl
+
+-- A command frame, a data request, as another program that knows the standard makes it
+-- (tests/scapy_frames.said). There is one more polynomial with both values above; it has not this
+-- one.
+pub data-request : fcsOctets (0x63 ∷ 0x88 ∷ 0x06 ∷ 0x52 ∷ 0x4C ∷ 0x01 ∷ 0x00 ∷ 0x0C ∷ 0x00 ∷ 0x04 ∷ []) ≡ 0x99 ∷ 0xB1 ∷ []
+unfolding fcsOf bits digits registerAfter entered
+data-request = refl

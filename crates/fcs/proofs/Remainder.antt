@@ -69,7 +69,7 @@ pub with-long : (octets : List ℕ) → length (withFcs octets) ≡ length octet
 with-long octets = length-append octets (fcsOctets octets)
 
 pub with-below : (octets : List ℕ) → Below 256 octets → Below 256 (withFcs octets)
-with-below octets p = below-append 256 octets (fcsOctets octets) p (omega arith, (omega (arith, fcs-below octets), tt))
+with-below octets p = below-append 256 octets (fcsOctets octets) p (omega (arith, fcs-below octets), (omega (arith, fcs-below octets), tt))
 
 -- of strings of one length they have one number of bits
 pub with-bits : (xs ys : List ℕ) → length xs ≡ length ys → length (bits (withFcs xs)) ≡ length (bits (withFcs ys))

@@ -2,13 +2,13 @@
 use mathlib.Core.Path.{sym}
 use native.Mathlib.Omega.{arith}
 use lib.Seq.{length-take-le}
-use Rattle.checked.proofs.Tests.{too-few, wrong, zeros, passes}
+use Rattle.checked.proofs.Tests.{short-check, wrong, zeros, passes}
 use borrow.Author.Needs.{needs}
 use Rattle.checked.proofs.check.Statement.{statement}
 use Rattle.checked.proofs.check.Tie as tie
 
 returns : tie.Need-returns
-returns c = too-few _ (c .if1 .taken)
+returns c = sym (short-check _ (c .if1 .taken))
 
 sub-k : tie.Need-sub-k
 sub-k c = search needs

@@ -11,10 +11,10 @@ use Rattle.checked.proofs.with_fcs.Statement.{statement}
 use Rattle.checked.proofs.with_fcs.Tie as tie
 
 abbrev Inv-loop : tie.InvT-loop
-Inv-loop report fcs n octets₀ i₀ octets i = (i ≤ n) × (length octets ≡ 127) × (take i octets ≡ take i report)
+Inv-loop report sequence n octets₀ i₀ octets i = (i ≤ n) × (length octets ≡ 127) × (take i octets ≡ take i report)
 
 abbrev μ-loop : tie.MeasureT-loop
-μ-loop report fcs n octets₀ i₀ octets i = n - i
+μ-loop report sequence n octets₀ i₀ octets i = n - i
 
 by-table-requires : tie.Need-by-table-requires Inv-loop μ-loop
 by-table-requires c κs = search needs
