@@ -1,7 +1,7 @@
-# make run        a report to a raw capture, the bench program on the captures, and the example
-#                 gateway; with CAPTURE=file the bench program on that capture and nothing else
-# make send       a report to a raw capture: MODE=0, 1 or 2, PROFILE=plain or checked,
-#                 REPORT=file, OUT=file
+# make run        make send, the bench program on the captures, and the example gateway; with
+#                 CAPTURE=file the bench program on that capture and nothing else
+# make send       a report to a raw capture: MODE=0, 1 or 2, PROFILE=plain or checked (the
+#                 environment's too), REPORT=file, OUT=file
 # make check      programs, library and tests from outside: about two minutes, less where all is
 #                 proved already; SEED=.. and CASES=.. repeat a comparison
 # make test       the gate: make check, then every proof from nothing (`rt ci`)
@@ -11,6 +11,7 @@
 #                 DESTDIR before them; `make install-shared` the shared library
 # make uninstall  takes both away from there
 # make speed      times against C, stack and sizes
+# make instructions  the library against C in instructions, by an emulator: some minutes
 # make clean      removes all that was built, and what `rt` keeps of its proofs
 # make help       these lines
 #
@@ -24,10 +25,11 @@
 # two `rt` at once would share target/; a file half made is none
 .NOTPARALLEL:
 .DELETE_ON_ERROR:
-.PHONY: run send profile check test lib shared install install-shared uninstall speed clean help programs outside places always
+.PHONY: run send profile check test lib shared install install-shared uninstall speed instructions clean help programs outside places always
 
 MODE = 1
-PROFILE = plain
+# the environment's is looked at: overlooked, it would send a report without its FCS
+PROFILE ?= plain
 REPORT = example/report
 OUT = build/capture.raw
 CAPTURE =
@@ -62,8 +64,7 @@ vpath %.c example tests measure comparison
 
 # some of the captures are there to be refused, which is status 1
 ifeq ($(CAPTURE),)
-run: programs lib build/gateway
-	@programs/send "$$MODE" "$$REPORT" "$$OUT"
+run: profile programs lib build/gateway send
 	@programs/bench captures/*.raw || [ $$? -eq 1 ]
 	@tools/exec build/gateway
 else
@@ -111,6 +112,9 @@ speed: lib build/speed build/stack
 	@tools/exec build/speed
 	@tools/exec build/stack
 	@measure/sizes
+
+instructions: lib build/speed
+	@measure/instructions
 
 # proves what has changed and links the programs; quiet unless it fails
 programs:

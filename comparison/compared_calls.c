@@ -67,7 +67,7 @@ static struct {
     uint32_t mode;
     const uint8_t *in;           /* the buffer that is read, if any */
     size_t in_length, room;
-    int on_record;
+    int on_record, on_octets;    /* a call that takes a record; one of octets, without a mode */
     lernazhup_receiver record;
     const lernazhup_receiver *got, *want;   /* the records that came back, where these differ */
 } now;
@@ -85,7 +85,7 @@ static void print_record(const char *title, const lernazhup_receiver *r)
     printf(shown < 127 ? " and zeros\n" : "\n");
 }
 
-/* Chips symbol by symbol; a byte that isn't a chip in brackets. */
+/* Octets in hex; chips symbol by symbol, a byte that isn't a chip in brackets. */
 static void print_bytes(void)
 {
     enum { SHOWN = 2000 };
@@ -93,9 +93,9 @@ static void print_bytes(void)
 
     printf("  bytes in:");
     for (i = 0; i < now.in_length && i < SHOWN; i++) {
-        if (i % group == 0)
+        if (now.on_octets || i % group == 0)
             printf(" ");
-        printf(now.in[i] > 1 ? "[%d]" : "%d", now.in[i]);
+        printf(now.on_octets ? "%02x" : now.in[i] > 1 ? "[%d]" : "%d", now.in[i]);
     }
     printf("%s\n", i < now.in_length ? " .." : "");
 }
@@ -103,7 +103,11 @@ static void print_bytes(void)
 /* What is needed for finding the case again, with or without the seed. */
 static void print_case(void)
 {
-    printf("  call: %s, mode %" PRIu32 ", %zu bytes in, a room of %zu bytes\n", now.name, now.mode, now.in_length, now.room);
+    printf("  call: %s, ", now.name);
+    if (now.on_octets)
+        printf("%zu octets in\n", now.in_length);
+    else
+        printf("mode %" PRIu32 ", %zu bytes in, a room of %zu bytes\n", now.mode, now.in_length, now.room);
     notes_print(stdout);
     if (now.on_record)
         print_record("record in", &now.record);
@@ -142,6 +146,13 @@ void begin(const char *name, uint32_t mode, const uint8_t *in, size_t in_length,
     now.in_length = in_length;
     now.room = room;
     now.on_record = 0;
+    now.on_octets = 0;
+}
+
+static void begin_on_octets(const char *name, const uint8_t *octets, size_t length)
+{
+    begin(name, 0, octets, length, 0);
+    now.on_octets = 1;
 }
 
 void begin_on_record(const char *name, const lernazhup_receiver *record, const uint8_t *in, size_t in_length, size_t room)
@@ -387,7 +398,7 @@ void check_check(const uint8_t *octets, size_t length)
     uint8_t *in;
 
     count_case(CHECK, 0, want);
-    begin("lernazhup_check", 0, octets, length, 0);
+    begin_on_octets("lernazhup_check", octets, length);
     in = lend_somewhere(LENT_IN, octets, length);
     check_number(lernazhup_check(in, length), want);
     check_lent(LENT_IN, "report", octets);
@@ -406,7 +417,7 @@ void check_fcs(const uint8_t *octets, size_t length)
             fcs_cases++;
         } else
             baseline_cases++;
-        begin(fcs_calls[i].name, 0, octets, length, 0);
+        begin_on_octets(fcs_calls[i].name, octets, length);
         in = lend_somewhere(LENT_IN, octets, length);
         check_number(fcs_calls[i].fcs(in, length), want);
         check_lent(LENT_IN, "octet", octets);

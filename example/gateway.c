@@ -1,8 +1,8 @@
 /* An example gateway, in the checked profile: a report goes out as chips with its FCS behind it,
- * the chips are damaged on their way, and the report is read back, whole and symbol by symbol. Then
- * a symbol is misread, the aerial is pulled in the middle of the frame, and a rope is unplugged,
- * and the same calls refuse: a rope that cannot be heard is not a dry one. Last comes a stream of
- * chips with two frames somewhere in it, which are found by trying.
+ * and is read back, whole and symbol by symbol: as sent, and with chips damaged on their way. Where
+ * a symbol is misread, the aerial is pulled or the front end off in the middle of the frame, or a
+ * rope is unplugged, the same calls refuse: a rope that cannot be heard is not a dry one. Last
+ * comes a stream of chips with two frames somewhere in it, which are found by trying.
  *   gateway [MODE]          0, 1 or 2; 1 where none is named */
 #include <stdio.h>
 #include <stdlib.h>
@@ -49,8 +49,9 @@ static void read_whole(uint32_t mode, const uint8_t *chips, size_t length)
     tell("whole", lernazhup_read_checked(mode, chips, length, report, sizeof report), report);
 }
 
-/* What lernazhup_read_checked gives, of a receiver. The receiver is plain: take stores whatever was
- * read, so it is given octets aside, and only those that pass become the report. */
+/* What lernazhup_read_checked gives, of a receiver; the report has room for LERNAZHUP_REPORT_MAX
+ * octets. The receiver is plain: take stores whatever was read, so it is given octets aside, and
+ * only those that pass become the report. */
 static lernazhup_reading take_checked(lernazhup_receiver receiver, uint8_t *report)
 {
     uint8_t octets[LERNAZHUP_REPORT_MAX];
@@ -132,7 +133,7 @@ static void misread(uint32_t mode, uint8_t *chips, size_t length, size_t at)
 {
     uint8_t kept[LERNAZHUP_SYMBOL_MAX];
     size_t size = LERNAZHUP_SYMBOL_CHIPS(mode);
-    while (memcmp(chips + at, chips, size) == 0)
+    while (at + size < length && memcmp(chips + at, chips, size) == 0)
         at += size;
     memcpy(kept, chips + at, size);
     memcpy(chips + at, chips, size);

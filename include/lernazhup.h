@@ -33,11 +33,16 @@
  * in a row (an octet's lowest bit goes first). So up to three wrong bits are always found, and one
  * misread symbol of a report: its bits lie side by side, and in mode 0 it turns its own bit and the
  * next.
- * What the checked one can't find: other errors, a misread length among them, pass about once in
- * 65,536 times, and in mode 0, where a misread symbol turns two bits, once in 32,768. A frame of
- * somebody else's making, or an old one sent again, has a right FCS, too. And octets that are all 0
- * have the FCS 0, which would pass: hence LERNAZHUP_ALLZERO, since zeros are what an unplugged rope
- * gives.
+ * What the checked one can't find: of other errors in a report, one in 65,536 or fewer ends in a
+ * right FCS; in mode 0, where a misread symbol turns two bits, one in 33,000, and of a report of
+ * fewer than 13 octets one in 6,300. (Reckoned for two misread symbols or more, each by itself and
+ * as likely as the next.) A misread length may be right by chance, too, and one that is up to four
+ * too long passes where the next frame comes at once: its preamble is zeros, and zeros behind a
+ * right FCS leave it right. A frame of somebody else's making, or an old one sent again, has a
+ * right FCS. And octets that are all 0 have the FCS 0, which would pass: hence LERNAZHUP_ALLZERO,
+ * since zeros are what an unplugged rope gives. That is for zeros throughout: behind any octet that
+ * isn't 0, as behind the header of a MAC frame, zeros pass, and to look at what a report carries is
+ * the gateway's part.
  *
  * Who finds the frame: the caller. The first chip of a buffer is taken for the first chip of the
  * preamble, and no other beginning is looked for. In a stream, try one chip after the other as the
@@ -83,8 +88,8 @@ extern "C" {
  * the minor number where something is added; the last where nothing changes that a caller sees. */
 #define LERNAZHUP_VERSION_MAJOR 1
 #define LERNAZHUP_VERSION_MINOR 2
-#define LERNAZHUP_VERSION_PATCH 0
-#define LERNAZHUP_VERSION "1.2.0"
+#define LERNAZHUP_VERSION_PATCH 1
+#define LERNAZHUP_VERSION "1.2.1"
 
 /* The numbers given back. */
 #define LERNAZHUP_DONE 0u      /* done                                   write, read, push, take */

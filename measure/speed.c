@@ -1,6 +1,8 @@
 /* The speed measurement: the library beside the C baselines, in one run.
  *
  *   speed [repetitions]        at least 51, which is also what it does when not told
+ *   speed NAME MODE ROUNDS     so many rounds of one contestant over a few frames, and how many
+ *                              chips, or octets of an FCS, a round has: for measure/instructions
  *
  * Each repetition times every contestant once, in turn, and the next repetition begins one
  * contestant later: whatever else the machine is doing then falls on all of them alike. A
@@ -21,7 +23,7 @@
 #include "baselines.h"
 
 enum { MODES = 3, FRAMES = 32, OCTETS = LERNAZHUP_REPORT_MAX, LEAST_REPETITIONS = 51, MOST_REPETITIONS = 2001, WARM_UP = 3 };
-enum { NO_RADIO = MODES, FCS_ROUNDS = 16 };
+enum { NO_RADIO = MODES, FCS_ROUNDS = 16, FEW = 4 };
 
 typedef lernazhup_reading reader(uint32_t, const uint8_t *, size_t, uint8_t *, size_t);
 typedef lernazhup_written writer(uint32_t, const uint8_t *, size_t, uint8_t *, size_t);
@@ -32,6 +34,7 @@ static uint8_t reports[FRAMES][OCTETS], unsealed[FRAMES][OCTETS];
 static uint8_t clean[MODES][FRAMES][LERNAZHUP_CHIPS_MAX];
 static uint8_t noisy[MODES][FRAMES][LERNAZHUP_CHIPS_MAX];
 static uint32_t wrong_chips[MODES][FRAMES];
+static size_t frames = FRAMES;
 
 struct contestant {
     const char *name;
@@ -96,7 +99,7 @@ static void make_frames(void)
 {
     size_t frame, i;
     uint32_t mode, fcs;
-    for (frame = 0; frame < FRAMES; frame++) {
+    for (frame = 0; frame < frames; frame++) {
         for (i = 0; i < OCTETS; i++) {
             reports[frame][i] = (uint8_t)random_number();
             unsealed[frame][i] = (uint8_t)random_number();
@@ -197,7 +200,7 @@ static uint32_t fcs_work(checker *fcs)
     uint32_t sum = 0;
     size_t round, frame;
     for (round = 0; round < FCS_ROUNDS; round++)
-        for (frame = 0; frame < FRAMES; frame++)
+        for (frame = 0; frame < frames; frame++)
             sum += fcs(unsealed[frame], OCTETS);
     return sum;
 }
@@ -211,10 +214,10 @@ static uint32_t work(const struct contestant *contestant)
     if (contestant->fcs != NULL)
         return fcs_work(contestant->fcs);
     if (contestant->read != NULL)
-        for (frame = 0; frame < FRAMES; frame++)
+        for (frame = 0; frame < frames; frame++)
             sum += contestant->read(mode, chips_for(contestant, frame), frame_chips(mode), report, OCTETS).count;
     else
-        for (frame = 0; frame < FRAMES; frame++)
+        for (frame = 0; frame < frames; frame++)
             sum += contestant->write(mode, reports[frame], OCTETS, chips, frame_chips(mode)).chips;
     return sum;
 }
@@ -222,7 +225,7 @@ static uint32_t work(const struct contestant *contestant)
 static void check(struct contestant *contestant)
 {
     size_t frame;
-    for (frame = 0; frame < FRAMES; frame++) {
+    for (frame = 0; frame < frames; frame++) {
         if (!contestant->reads)
             continue;
         if (contestant->fcs != NULL)
@@ -241,7 +244,7 @@ static void check(struct contestant *contestant)
 static void fetch(const struct contestant *contestant)
 {
     size_t frame, at;
-    for (frame = 0; contestant->read != NULL && frame < FRAMES; frame++) {
+    for (frame = 0; contestant->read != NULL && frame < frames; frame++) {
         const volatile uint8_t *chips = chips_for(contestant, frame);
         for (at = 0; at < frame_chips(contestant->mode); at += 64)
             (void)chips[at];
@@ -252,6 +255,12 @@ static void fetch(const struct contestant *contestant)
 static double frame_units(uint32_t mode)
 {
     return mode == NO_RADIO ? OCTETS : (double)frame_chips(mode);
+}
+
+/* The units in all of a contestant's work. */
+static double work_units(const struct contestant *contestant)
+{
+    return frame_units(contestant->mode) * (double)frames * (contestant->fcs != NULL ? FCS_ROUNDS : 1);
 }
 
 /* Nanoseconds a unit. */
@@ -266,7 +275,7 @@ static double timed(const struct contestant *contestant)
     if (sum != contestant->expected)
         wrong(contestant->name, contestant->mode);
     return ((double)(after.tv_sec - before.tv_sec) * 1e9 + (double)(after.tv_nsec - before.tv_nsec)) /
-           (frame_units(contestant->mode) * FRAMES * (contestant->fcs != NULL ? FCS_ROUNDS : 1));
+           work_units(contestant);
 }
 
 static void measure(int repetitions)
@@ -281,7 +290,7 @@ static void measure(int repetitions)
         }
 }
 
-static const struct contestant *find(const char *name, uint32_t mode)
+static struct contestant *find(const char *name, uint32_t mode)
 {
     int i;
     for (i = 0; i < CONTESTANTS; i++)
@@ -390,9 +399,28 @@ static void print_ratios(int repetitions)
             print_ratio(&ratios[i], mode, repetitions);
 }
 
+/* The work, checked once, and no more before it than it needs. */
+static int run_rounds(const char *name, const char *mode, int rounds)
+{
+    struct contestant *contestant = find(name, (uint32_t)atoi(mode));
+    if (contestant == NULL) {
+        fprintf(stderr, "speed: no contestant: %s, mode %s\n", name, mode);
+        return 2;
+    }
+    frames = FEW;
+    make_frames();
+    check(contestant);
+    while (rounds-- > 0)
+        work(contestant);
+    printf("%.0f\n", work_units(contestant));
+    return 0;
+}
+
 int main(int argc, char **argv)
 {
     int repetitions = argc > 1 ? atoi(argv[1]) : LEAST_REPETITIONS, i;
+    if (argc == 4)
+        return run_rounds(argv[1], argv[2], atoi(argv[3]));
     if (repetitions < LEAST_REPETITIONS)
         repetitions = LEAST_REPETITIONS;
     if (repetitions > MOST_REPETITIONS)

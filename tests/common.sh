@@ -4,7 +4,7 @@
 # case that goes wrong is a line; `counts` says how many there were and fails where one went wrong.
 unset CDPATH
 # what the make around a test was asked for is not meant for those that the test starts
-unset MAKEFLAGS MAKEOVERRIDES GNUMAKEFLAGS
+unset MAKEFLAGS MAKEOVERRIDES GNUMAKEFLAGS PROFILE
 cd "$(dirname "$0")/.." || exit 2
 room=$(mktemp -d) || exit 2
 trap 'rm -rf "$room"' EXIT

@@ -1,14 +1,13 @@
 /* The frame check held to what others say of it: the published check values; frames that scapy
  * made, from standard input, a line each (name, colon, octets in hex); what the header says that an
- * FCS finds for certain, tried out; and captures of mode 1.
- *   frame_check [CAPTURE NUMBER].. <frames      the number that the checked reader answers */
+ * FCS finds for certain, tried out on them; and captures of mode 1.
+ *   frame_check FRAMES [CAPTURE NUMBER].. <frames      how many frames there are, one of them the
+ *                                                      longest; what the checked reader answers */
 #include <stdio.h>
 #include <stdlib.h>
 #include <string.h>
 
 #include "lernazhup.h"
-
-enum { MODES = 3 };
 
 static unsigned long passed, failed;
 static char name[80];
@@ -83,19 +82,66 @@ static void misread(uint32_t mode, size_t n)
     }
 }
 
+static void flip(uint8_t *octets, size_t bit)
+{
+    octets[bit / 8] ^= (uint8_t)(1u << bit % 8);
+}
+
+/* Those bits from one on that are set in a number. */
+static void flip_all(uint8_t *octets, size_t from, unsigned long bits)
+{
+    for (; bits != 0; bits >>= 1, from++)
+        if (bits & 1)
+            flip(octets, from);
+}
+
 /* Every change whose bits all lie within 16 in a row. */
 static void runs(uint8_t *octets, size_t n)
 {
-    unsigned long change, bits;
-    size_t at, k;
-    for (at = 0; at < 8 * n; at++)
-        for (change = 1; change < 65536 && change >> (8 * n - at) == 0; change += 2) {
-            for (bits = change, k = at; bits != 0; bits >>= 1, k++)
-                octets[k / 8] ^= (uint8_t)((bits & 1) << k % 8);
+    unsigned long bits;
+    size_t from;
+    for (from = 0; from < 8 * n; from++)
+        for (bits = 1; bits < 65536 && bits >> (8 * n - from) == 0; bits += 2) {
+            flip_all(octets, from, bits);
             check("16 bits in a row", lernazhup_check(octets, n), LERNAZHUP_BADCHECK);
-            for (bits = change, k = at; bits != 0; bits >>= 1, k++)
-                octets[k / 8] ^= (uint8_t)((bits & 1) << k % 8);
+            flip_all(octets, from, bits);
         }
+}
+
+/* Every choice of up to so many wrong bits, from one bit on. */
+static void few(uint8_t *octets, size_t n, size_t from, unsigned many)
+{
+    size_t bit;
+    for (bit = from; bit < 8 * n; bit++) {
+        flip(octets, bit);
+        check("a few wrong bits", lernazhup_check(octets, n), LERNAZHUP_BADCHECK);
+        if (many > 1)
+            few(octets, n, bit + 1, many - 1);
+        flip(octets, bit);
+    }
+}
+
+/* Each bit wrong or not, as a coin falls; and one more where they are even in number. */
+static void odd(const uint8_t *octets, size_t n)
+{
+    enum { TRIES = 20000 };
+    static uint32_t state = 1;
+    uint8_t wrong[LERNAZHUP_REPORT_MAX];
+    unsigned tries, count;
+    size_t bit;
+    for (tries = 0; tries < TRIES; tries++) {
+        memcpy(wrong, octets, n);
+        for (count = 0, bit = 1; bit < 8 * n; bit++) {
+            state = state * 1664525u + 1013904223u;
+            if (state >> 31) {
+                flip(wrong, bit);
+                count++;
+            }
+        }
+        if (count % 2 == 0)
+            flip(wrong, 0);
+        check("an odd number of wrong bits", lernazhup_check(wrong, n), LERNAZHUP_BADCHECK);
+    }
 }
 
 /* The next line's name and octets; no octets where it has none or there is no more of them. */
@@ -126,28 +172,40 @@ static void capture(const char *file, const char *number)
           strtoul(number, NULL, 10));
 }
 
+/* A frame of scapy's, by every call and in every mode. */
+static void whole_frame(const uint8_t *octets, size_t n)
+{
+    uint32_t mode;
+    check_fcs(octets, n - 2, octets[n - 2] + 256u * octets[n - 1]);
+    check("the whole frame", lernazhup_check(octets, n), LERNAZHUP_DONE);
+    for (mode = 0; LERNAZHUP_SYMBOL_CHIPS(mode) > 0; mode++) {
+        check("chips", lernazhup_write_checked(mode, octets, n - 2, chips, sizeof chips).chips,
+              LERNAZHUP_FRAME_CHIPS(mode, n));
+        check_reading(mode, octets, n);
+        misread(mode, n);
+    }
+}
+
 int main(int count, char **arguments)
 {
     int k;
     uint8_t octets[LERNAZHUP_REPORT_MAX];
-    unsigned frames = 0;
-    uint32_t mode;
+    unsigned long frames = 0, longest = 0;
     size_t n;
     published();
     for (; (n = next_frame(octets)) > 2; frames++) {
-        check_fcs(octets, n - 2, octets[n - 2] + 256u * octets[n - 1]);
-        check("the whole frame", lernazhup_check(octets, n), LERNAZHUP_DONE);
-        for (mode = 0; mode < MODES; mode++) {
-            check("chips", lernazhup_write_checked(mode, octets, n - 2, chips, sizeof chips).chips,
-                  LERNAZHUP_FRAME_CHIPS(mode, n));
-            check_reading(mode, octets, n);
-            misread(mode, n);
-        }
+        whole_frame(octets, n);
+        odd(octets, n);
+        few(octets, n, 0, n < 16 ? 3 : 2); /* of three in a long one there would be millions */
         if (frames == 0)
             runs(octets, n);
+        longest += n == LERNAZHUP_REPORT_MAX;
     }
-    for (k = 1; k + 1 < count; k += 2)
+    strcpy(name, "all");
+    check("frames", frames, count > 1 ? strtoul(arguments[1], NULL, 10) : 0);
+    check("of the longest", longest > 0, 1);
+    for (k = 2; k + 1 < count; k += 2)
         capture(arguments[k], arguments[k + 1]);
-    printf("frame check: %u frames, %lu values, %lu wrong\n", frames, passed + failed, failed);
-    return failed != 0 || frames == 0 || !feof(stdin);
+    printf("frame check: %lu frames, %lu values, %lu wrong\n", frames, passed + failed, failed);
+    return failed != 0 || !feof(stdin);
 }

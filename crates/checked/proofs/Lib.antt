@@ -1,4 +1,5 @@
--- Laws of the profile's tests and what they catch, of the octets appended, and of the room.
+-- Laws of the profile's tests and what they catch, of the octets appended, and of the room; and the
+-- rules of single reports, computed.
 pub mod Tests
 pub mod Passing
 pub mod Caught
@@ -7,3 +8,4 @@ pub mod Writer
 pub mod Room
 pub mod Reader
 pub mod Settled
+pub mod Sheet

@@ -98,6 +98,21 @@ check-parts octets e =
 pub not-zeros : (octets : List ℕ) → checkOf octets ≡ DONE → octets ≡ replicate (length octets) 0 → ⊥
 not-zeros octets e q = not-both (allZero octets) (ap allZero q ∙ are-zeros (length octets)) (check-parts octets e .2)
 
+-- and neither is what stands before its FCS: zeros have the FCS 0
+pub body-not-zeros : (octets : List ℕ) → checkOf octets ≡ DONE → body octets ≡ replicate (length octets - 2) 0 → ⊥
+body-not-zeros octets e q =
+    let c = check-parts octets e in
+    let k = length octets - 2 in
+    let n : k + 2 ≡ length octets = omega (arith, c .0) in
+    let right = eqb-true (valueOf 256 (drop k octets)) (fcsOf (body octets)) (c .1) in
+    let sum : getD octets k 0 + 256 * getD octets (k + 1) 0 ≡ 0 = sym (last-two octets (c .0)) ∙ right ∙ ap fcsOf q ∙ zeros-pass k in
+    let low : getD octets k 0 ≡ 0 = omega (arith, sum) in
+    let high : getD octets (k + 1) 0 ≡ 0 = omega (arith, sum) in
+    let last : drop k octets ≡ 0 ∷ 0 ∷ [] = last-pair octets (c .0) ∙ rw (low, high) in
+    not-zeros octets e
+    (sym (take-append-drop k octets) ∙ ap (λ (l : List ℕ). l ++ drop k octets) q ∙ zeros-more k (drop k octets) last
+    ∙ ap (λ (i : ℕ). replicate i 0) n)
+
 -- and the other two
 pub passes-check : (octets : List ℕ) → Below 256 octets → checkOf octets ≡ DONE → (3 ≤ length octets) × (octets ≡ withFcs (body octets))
 passes-check octets p e = let c = check-parts octets e in

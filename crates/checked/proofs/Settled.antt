@@ -1,12 +1,8 @@
 -- The promises settle what they speak of: two outcomes that satisfy one are equal. Those of `write`
 -- and `read` settle every byte of the lent buffer at exit; each speaks of the function's own
 -- contract, as `Settles` does. Assumes nothing.
-use mathlib.Core.Path.{_≡_}
-use contract.Lifetimes.{Lfts}
 use denote.Ref.{now}
-use denote.Triple.Clauses.{AtExit}
-use borrow.Fn.Kinds.{Dens, resT, endedOf}
-use Rattle.codes.proofs.Settled.{settled, Settles, AsksNothing}
+use Rattle.codes.proofs.Settled.{settled, Settles, SettlesBoth, AsksNothing}
 use Rattle.frame.proofs.Settled.{same-outcome}
 use Rattle.checked.proofs.write.Kinds as write-kinds
 use Rattle.checked.proofs.write.Reads as write-promise
@@ -16,13 +12,11 @@ use Rattle.checked.proofs.check.Kinds as check-kinds
 use Rattle.checked.proofs.check.Reads as check-promise
 
 -- `s .1 .1 .0` is the third parameter, the chip buffer, at exit
-pub write-settled : (κs : Lfts 2) (a : Dens κs write-kinds.ps) (p q : resT write-kinds.r κs .Denot) (s t : AtExit (endedOf 2 write-kinds.ps write-kinds.r) κs)
-    → write-promise.Post κs a p s → write-promise.Post κs a q t → (p ≡ q) × (now (s .1 .1 .0) ≡ now (t .1 .1 .0))
+pub write-settled : SettlesBoth 2 write-kinds.ps write-kinds.r write-promise.Post (λ κs s. now (s .1 .1 .0))
 write-settled κs a p q s t e f = same-outcome p q _ _ (settled _ _ e f)
 
 -- the third parameter, the report buffer, at exit
-pub read-settled : (κs : Lfts 2) (a : Dens κs read-kinds.ps) (p q : resT read-kinds.r κs .Denot) (s t : AtExit (endedOf 2 read-kinds.ps read-kinds.r) κs)
-    → read-promise.Post κs a p s → read-promise.Post κs a q t → (p ≡ q) × (now (s .1 .1 .0) ≡ now (t .1 .1 .0))
+pub read-settled : SettlesBoth 2 read-kinds.ps read-kinds.r read-promise.Post (λ κs s. now (s .1 .1 .0))
 read-settled κs a p q s t e f = same-outcome p q _ _ (settled _ _ e f)
 
 pub check-settled : Settles 1 check-kinds.ps check-kinds.r check-promise.Post

@@ -8,11 +8,11 @@ use mathlib.Core.Path.{_≡_, refl, sym, ap, _∙_}
 use mathlib.Core.Logic.{_↔_}
 use mathlib.Core.Bool.{true, false}
 use mathlib.Core.List.{List, [], _∷_, _++_}
-use Prim.Native.Nat.{ℕ, _+_, _≤_, _<_}
+use Prim.Native.Nat.{ℕ, _+_, _-_, _≤_, _<_}
 use native.Mathlib.Omega.{arith}
 use lib.Dec.{eqb, ltb}
 use lib.ListN.{length, getD, take, drop, replicate}
-use lib.Seq.{take-at}
+use lib.Seq.{take-at, take-take}
 use borrow.Author.Tests.{eq-eqb, ne-eqb, lt-ltb, le-ltb, eqb-true, eqb-false}
 use Rattle.codes.specs.Numbers.{DONE, BADMODE, TOOLONG, NOROOM, RUNOUT, NOCHIP, LOST, PREAMBLE, BADSTART, RESERVED, TOOFEW, BADCHECK, ALLZERO}
 use Rattle.codes.specs.Chips.{among}
@@ -33,7 +33,7 @@ use Rattle.fcs.specs.Fcs.{fcsOctets, withFcs}
 use Rattle.fcs.proofs.Remainder.{with-long, with-below}
 use Rattle.checked.specs.Profile.{allZero, body, checkOf, checkedAnswer, readCheckedOf, writtenChecked}
 use Rattle.checked.proofs.Tests.{short-check}
-use Rattle.checked.proofs.Passing.{check-wrong, check-zeros, not-zeros, passes-check, check-passes, check-numbers, are-zeros, zeros-are, with-body}
+use Rattle.checked.proofs.Passing.{check-wrong, check-zeros, not-zeros, body-not-zeros, passes-check, check-passes, check-numbers, are-zeros, zeros-are, with-body}
 use Rattle.demands.specs.Words.{Report, success}
 use Rattle.demands.specs.Calls.{Call, after, counted, inOrder, tells}
 use Rattle.demands.specs.Profile.{Passes}
@@ -118,16 +118,18 @@ told-checked mode buffer report count (done place other c) f e =
     let q : answered (refused (checkOf other) place) buffer ≡ success mode buffer report count = rw g at e in
     absurd (eqb-false (checkOf other) DONE g (ap (λ (o : Outcome Reading). o .answer .number) q)))
 
--- what such a reading stored
+-- what such a reading stored: a report that passes
+abbrev Stored : ℕ → List ℕ → Type 0
+Stored n buffer = (report : List ℕ) × (checkOf report ≡ DONE) × (length report ≡ n) × (take n buffer ≡ report)
+
 stored : (a : Answer) → Told a → (buffer : List ℕ) → told (checkedAnswer a) .number ≡ DONE
-    → take (told (checkedAnswer a) .n) (left (checkedAnswer a) buffer) ≡ replicate (told (checkedAnswer a) .n) 0 → ⊥
+    → Stored (told (checkedAnswer a) .n) (left (checkedAnswer a) buffer)
 unfolding checkedAnswer told left
-stored (refused x place) f buffer = λ e z. f e
+stored (refused x place) f buffer = λ e. absurd (f e)
 stored (done place report count) f buffer =
     by-test (eqb (checkOf report) DONE)
-    (λ t. rw t (λ e z.
-    not-zeros report (eqb-true (checkOf report) DONE t) (sym (take-at report (drop (length report) buffer) (length report) refl) ∙ z)))
-    (λ g. rw g (λ e z. eqb-false (checkOf report) DONE g e))
+    (λ t. rw t (λ e. (report, eqb-true (checkOf report) DONE t, refl, take-at report (drop (length report) buffer) (length report) refl)))
+    (λ g. rw g (λ e. absurd (eqb-false (checkOf report) DONE g e)))
 
 -- Octets pass the tests exactly when they are such.
 pub check-done : (octets : List ℕ) → Below 256 octets → (checkOf octets ≡ DONE) ↔ Passes octets
@@ -147,11 +149,26 @@ checked-done mode chips buffer report count = (
 )
 
 -- What a reading that is done in this profile stored is not nothing but zeros, whatever the mode
--- and the chips were.
-pub never-zeros : (mode : ℕ) (chips buffer : List ℕ) → readCheckedOf mode chips buffer .answer .number ≡ DONE
-    → take (readCheckedOf mode chips buffer .answer .n) (readCheckedOf mode chips buffer .buffer)
-    ≡ replicate (readCheckedOf mode chips buffer .answer .n) 0 → ⊥
-never-zeros mode chips buffer = stored (answerAt mode (length buffer) chips) (answer-told mode (length buffer) chips) buffer
+-- and the chips were; and neither is what stands there before the two octets of the FCS.
+module _ (mode : ℕ) (chips buffer : List ℕ) (e : readCheckedOf mode chips buffer .answer .number ≡ DONE) where
+  abbrev n : ℕ
+  n = readCheckedOf mode chips buffer .answer .n
+
+  abbrev held : List ℕ
+  held = readCheckedOf mode chips buffer .buffer
+
+  got : Stored n held
+  got = stored (answerAt mode (length buffer) chips) (answer-told mode (length buffer) chips) buffer e
+
+  pub never-zeros : take n held ≡ replicate n 0 → ⊥
+  never-zeros z = not-zeros (got .0) (got .1) (sym (got .3) ∙ z ∙ ap (λ (i : ℕ). replicate i 0) (sym (got .2)))
+
+  pub never-zeros-before : take (n - 2) held ≡ replicate (n - 2) 0 → ⊥
+  never-zeros-before z =
+      let front : take (n - 2) (take n held) ≡ take (n - 2) held = take-take (n - 2) n held (omega arith) in
+      body-not-zeros (got .0) (got .1)
+      (ap (λ (i : ℕ). take (i - 2) (got .0)) (got .2) ∙ ap (take (n - 2)) (sym (got .3)) ∙ front ∙ z
+      ∙ ap (λ (i : ℕ). replicate (i - 2) 0) (sym (got .2)))
 
 -- ---- the writer, and what it wrote
 

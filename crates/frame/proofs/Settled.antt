@@ -4,11 +4,8 @@
 use mathlib.Core.Path.{_≡_, ap}
 use mathlib.Core.List.{List}
 use Prim.Native.Nat.{ℕ}
-use contract.Lifetimes.{Lfts}
 use denote.Ref.{now}
-use denote.Triple.Clauses.{AtExit}
-use borrow.Fn.Kinds.{Dens, resT, endedOf}
-use Rattle.codes.proofs.Settled.{settled, Settles, AsksNothing}
+use Rattle.codes.proofs.Settled.{settled, Settles, SettlesBoth, AsksNothing}
 use Rattle.frame.specs.Outcome.{Outcome, outcome}
 use Rattle.frame.proofs.write.Kinds as write-kinds
 use Rattle.frame.proofs.write.Reads as write-promise
@@ -20,8 +17,7 @@ pub same-outcome : {A : Type 0} (p q : A) (b c : List ℕ) → outcome p b ≡ o
 same-outcome {A} p q b c e = (ap (λ (o : Outcome A). o .answer) e, ap (λ (o : Outcome A). o .buffer) e)
 
 -- `s .1 .1 .0` is the third parameter, the buffer, at exit
-pub write-settled : (κs : Lfts 2) (a : Dens κs write-kinds.ps) (p q : resT write-kinds.r κs .Denot) (s t : AtExit (endedOf 2 write-kinds.ps write-kinds.r) κs)
-    → write-promise.Post κs a p s → write-promise.Post κs a q t → (p ≡ q) × (now (s .1 .1 .0) ≡ now (t .1 .1 .0))
+pub write-settled : SettlesBoth 2 write-kinds.ps write-kinds.r write-promise.Post (λ κs s. now (s .1 .1 .0))
 write-settled κs a p q s t e f = same-outcome p q _ _ (settled _ _ e f)
 
 pub refusal-settled : Settles 0 refusal-kinds.ps refusal-kinds.r refusal-promise.Post

@@ -1,13 +1,26 @@
 -- The promises of the exported functions settle what they speak of: two outcomes that satisfy one
 -- are equal, the whole record that comes back among them, and every byte of a lent buffer at exit.
--- Each speaks of the function's own contract, as `Settles` does. Assumes nothing.
+-- Each speaks of the function's own contract, as `Settles` does. And what it promises is what the
+-- function below promises: with another contract for an exported function, and a body that meets
+-- it, all else would be proved. Assumes nothing.
 use mathlib.Core.Path.{_≡_}
 use contract.Lifetimes.{Lfts}
 use denote.Ref.{now}
 use denote.Triple.Clauses.{AtExit}
 use borrow.Fn.Kinds.{Dens, resT, endedOf}
-use Rattle.codes.proofs.Settled.{settled, Settles, AsksNothing}
+use Rattle.codes.proofs.Settled.{settled, Settles, SettlesBoth, AsksNothing, PassesOn}
 use Rattle.frame.proofs.Settled.{same-outcome}
+use Rattle.frame.proofs.write.Reads as write-below
+use Rattle.reader.proofs.read.Reads as read-below
+use Rattle.receiver.proofs.Receiver.start.Reads as start-below
+use Rattle.receiver.proofs.Receiver.push.Reads as push-below
+use Rattle.receiver.proofs.Receiver.finish.Reads as finish-below
+use Rattle.receiver.proofs.Receiver.take.Reads as take-below
+use Rattle.fcs.proofs.by_table.Reads as fcs-below
+use Rattle.fcs.proofs.bitwise.Reads as fcs-bitwise-below
+use Rattle.checked.proofs.check.Reads as check-below
+use Rattle.checked.proofs.write.Reads as write-checked-below
+use Rattle.checked.proofs.read.Reads as read-checked-below
 use Rattle.gateway.proofs.lernazhup_write.Kinds as write-kinds
 use Rattle.gateway.proofs.lernazhup_write.Reads as write-promise
 use Rattle.gateway.proofs.lernazhup_read.Kinds as read-kinds
@@ -32,13 +45,11 @@ use Rattle.gateway.proofs.lernazhup_check.Kinds as check-kinds
 use Rattle.gateway.proofs.lernazhup_check.Reads as check-promise
 
 -- `s .1 .1 .0` is the third parameter at exit
-pub write-settled : (κs : Lfts 2) (a : Dens κs write-kinds.ps) (p q : resT write-kinds.r κs .Denot) (s t : AtExit (endedOf 2 write-kinds.ps write-kinds.r) κs)
-    → write-promise.Post κs a p s → write-promise.Post κs a q t → (p ≡ q) × (now (s .1 .1 .0) ≡ now (t .1 .1 .0))
+pub write-settled : SettlesBoth 2 write-kinds.ps write-kinds.r write-promise.Post (λ κs s. now (s .1 .1 .0))
 write-settled κs a p q s t e f = same-outcome p q _ _ (settled _ _ e f)
 
 -- `s .1 .1 .0` is the third parameter at exit
-pub read-settled : (κs : Lfts 2) (a : Dens κs read-kinds.ps) (p q : resT read-kinds.r κs .Denot) (s t : AtExit (endedOf 2 read-kinds.ps read-kinds.r) κs)
-    → read-promise.Post κs a p s → read-promise.Post κs a q t → (p ≡ q) × (now (s .1 .1 .0) ≡ now (t .1 .1 .0))
+pub read-settled : SettlesBoth 2 read-kinds.ps read-kinds.r read-promise.Post (λ κs s. now (s .1 .1 .0))
 read-settled κs a p q s t e f = same-outcome p q _ _ (settled _ _ e f)
 
 pub start-settled : Settles 0 start-kinds.ps start-kinds.r start-promise.Post
@@ -51,20 +62,15 @@ pub finish-settled : Settles 0 finish-kinds.ps finish-kinds.r finish-promise.Pos
 finish-settled κs a p q s t = settled p q
 
 -- `s .1 .0` is the second parameter at exit
-pub take-settled : (κs : Lfts 1) (a : Dens κs take-kinds.ps) (p q : resT take-kinds.r κs .Denot) (s t : AtExit (endedOf 1 take-kinds.ps take-kinds.r) κs)
-    → take-promise.Post κs a p s → take-promise.Post κs a q t → (p ≡ q) × (now (s .1 .0) ≡ now (t .1 .0))
+pub take-settled : SettlesBoth 1 take-kinds.ps take-kinds.r take-promise.Post (λ κs s. now (s .1 .0))
 take-settled κs a p q s t e f = same-outcome p q _ _ (settled _ _ e f)
 
 -- `s .1 .1 .0` is the third parameter at exit
-pub write-checked-settled : (κs : Lfts 2) (a : Dens κs write-checked-kinds.ps) (p q : resT write-checked-kinds.r κs .Denot)
-    (s t : AtExit (endedOf 2 write-checked-kinds.ps write-checked-kinds.r) κs)
-    → write-checked-promise.Post κs a p s → write-checked-promise.Post κs a q t → (p ≡ q) × (now (s .1 .1 .0) ≡ now (t .1 .1 .0))
+pub write-checked-settled : SettlesBoth 2 write-checked-kinds.ps write-checked-kinds.r write-checked-promise.Post (λ κs s. now (s .1 .1 .0))
 write-checked-settled κs a p q s t e f = same-outcome p q _ _ (settled _ _ e f)
 
 -- `s .1 .1 .0` is the third parameter at exit
-pub read-checked-settled : (κs : Lfts 2) (a : Dens κs read-checked-kinds.ps) (p q : resT read-checked-kinds.r κs .Denot)
-    (s t : AtExit (endedOf 2 read-checked-kinds.ps read-checked-kinds.r) κs)
-    → read-checked-promise.Post κs a p s → read-checked-promise.Post κs a q t → (p ≡ q) × (now (s .1 .1 .0) ≡ now (t .1 .1 .0))
+pub read-checked-settled : SettlesBoth 2 read-checked-kinds.ps read-checked-kinds.r read-checked-promise.Post (λ κs s. now (s .1 .1 .0))
 read-checked-settled κs a p q s t e f = same-outcome p q _ _ (settled _ _ e f)
 
 pub fcs-settled : Settles 1 fcs-kinds.ps fcs-kinds.r fcs-promise.Post
@@ -113,3 +119,36 @@ fcs-bitwise-asks-nothing κs a = tt
 
 pub check-asks-nothing : AsksNothing 1 check-kinds.ps check-promise.Pre
 check-asks-nothing κs a = tt
+
+pub write-passes-on : PassesOn 2 write-kinds.ps write-kinds.r write-promise.Post write-below.Post
+write-passes-on κs a p s e = e
+
+pub read-passes-on : PassesOn 2 read-kinds.ps read-kinds.r read-promise.Post read-below.Post
+read-passes-on κs a p s e = e
+
+pub start-passes-on : PassesOn 0 start-kinds.ps start-kinds.r start-promise.Post start-below.Post
+start-passes-on κs a p s e = e
+
+pub push-passes-on : PassesOn 1 push-kinds.ps push-kinds.r push-promise.Post push-below.Post
+push-passes-on κs a p s e = e
+
+pub finish-passes-on : PassesOn 0 finish-kinds.ps finish-kinds.r finish-promise.Post finish-below.Post
+finish-passes-on κs a p s e = e
+
+pub take-passes-on : PassesOn 1 take-kinds.ps take-kinds.r take-promise.Post take-below.Post
+take-passes-on κs a p s e = e
+
+pub fcs-passes-on : PassesOn 1 fcs-kinds.ps fcs-kinds.r fcs-promise.Post fcs-below.Post
+fcs-passes-on κs a p s e = e
+
+pub fcs-bitwise-passes-on : PassesOn 1 fcs-bitwise-kinds.ps fcs-bitwise-kinds.r fcs-bitwise-promise.Post fcs-bitwise-below.Post
+fcs-bitwise-passes-on κs a p s e = e
+
+pub check-passes-on : PassesOn 1 check-kinds.ps check-kinds.r check-promise.Post check-below.Post
+check-passes-on κs a p s e = e
+
+pub write-checked-passes-on : PassesOn 2 write-checked-kinds.ps write-checked-kinds.r write-checked-promise.Post write-checked-below.Post
+write-checked-passes-on κs a p s e = e
+
+pub read-checked-passes-on : PassesOn 2 read-checked-kinds.ps read-checked-kinds.r read-checked-promise.Post read-checked-below.Post
+read-checked-passes-on κs a p s e = e

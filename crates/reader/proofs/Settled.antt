@@ -1,12 +1,8 @@
 -- The promises settle what they speak of: two outcomes that satisfy one are equal. Those of `read`,
 -- `keep` and `store` settle every byte of the lent buffer at exit; each speaks of the function's
 -- own contract, as `Settles` does. Assumes nothing.
-use mathlib.Core.Path.{_≡_}
-use contract.Lifetimes.{Lfts}
 use denote.Ref.{now}
-use denote.Triple.Clauses.{AtExit}
-use borrow.Fn.Kinds.{Dens, resT, endedOf}
-use Rattle.codes.proofs.Settled.{settled, Settles, AsksNothing}
+use Rattle.codes.proofs.Settled.{settled, Settles, SettlesLent, SettlesBoth, AsksNothing}
 use Rattle.frame.proofs.Settled.{same-outcome}
 use Rattle.reader.proofs.read.Kinds as read-kinds
 use Rattle.reader.proofs.read.Reads as read-promise
@@ -20,21 +16,18 @@ use Rattle.reader.proofs.refusal.Kinds as refusal-kinds
 use Rattle.reader.proofs.refusal.Reads as refusal-promise
 
 -- `s .1 .1 .0` is the third parameter, the report buffer, at exit
-pub read-settled : (κs : Lfts 2) (a : Dens κs read-kinds.ps) (p q : resT read-kinds.r κs .Denot) (s t : AtExit (endedOf 2 read-kinds.ps read-kinds.r) κs)
-    → read-promise.Post κs a p s → read-promise.Post κs a q t → (p ≡ q) × (now (s .1 .1 .0) ≡ now (t .1 .1 .0))
+pub read-settled : SettlesBoth 2 read-kinds.ps read-kinds.r read-promise.Post (λ κs s. now (s .1 .1 .0))
 read-settled κs a p q s t e f = same-outcome p q _ _ (settled _ _ e f)
 
 pub follow-settled : Settles 0 follow-kinds.ps follow-kinds.r follow-promise.Post
 follow-settled κs a p q s t = settled p q
 
 -- the third parameter, the octets, at exit
-pub keep-settled : (κs : Lfts 1) (a : Dens κs keep-kinds.ps) (p q : resT keep-kinds.r κs .Denot) (s t : AtExit (endedOf 1 keep-kinds.ps keep-kinds.r) κs)
-    → keep-promise.Post κs a p s → keep-promise.Post κs a q t → now (s .1 .1 .0) ≡ now (t .1 .1 .0)
+pub keep-settled : SettlesLent 1 keep-kinds.ps keep-kinds.r keep-promise.Post (λ κs s. now (s .1 .1 .0))
 keep-settled κs a p q s t = settled _ _
 
 -- the third parameter, the report buffer, at exit
-pub store-settled : (κs : Lfts 1) (a : Dens κs store-kinds.ps) (p q : resT store-kinds.r κs .Denot) (s t : AtExit (endedOf 1 store-kinds.ps store-kinds.r) κs)
-    → store-promise.Post κs a p s → store-promise.Post κs a q t → now (s .1 .1 .0) ≡ now (t .1 .1 .0)
+pub store-settled : SettlesLent 1 store-kinds.ps store-kinds.r store-promise.Post (λ κs s. now (s .1 .1 .0))
 store-settled κs a p q s t = settled _ _
 
 pub refusal-settled : Settles 0 refusal-kinds.ps refusal-kinds.r refusal-promise.Post

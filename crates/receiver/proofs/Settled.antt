@@ -2,12 +2,8 @@
 -- record that comes back among them, and for `take` every byte of the lent buffer at exit. And
 -- they ask nothing. Each speaks of the function's own contract, as `Settles` and `AsksNothing` do.
 -- Assumes nothing.
-use mathlib.Core.Path.{_≡_}
-use contract.Lifetimes.{Lfts}
 use denote.Ref.{now}
-use denote.Triple.Clauses.{AtExit}
-use borrow.Fn.Kinds.{Dens, resT, endedOf}
-use Rattle.codes.proofs.Settled.{settled, Settles, AsksNothing}
+use Rattle.codes.proofs.Settled.{settled, Settles, SettlesBoth, AsksNothing}
 use Rattle.frame.proofs.Settled.{same-outcome}
 use Rattle.receiver.proofs.Receiver.start.Kinds as start-kinds
 use Rattle.receiver.proofs.Receiver.start.Reads as start-promise
@@ -28,8 +24,7 @@ pub finish-settled : Settles 0 finish-kinds.ps finish-kinds.r finish-promise.Pos
 finish-settled κs a p q s t = settled p q
 
 -- `s .1 .0` is the second parameter, the report buffer, at exit
-pub take-settled : (κs : Lfts 1) (a : Dens κs take-kinds.ps) (p q : resT take-kinds.r κs .Denot) (s t : AtExit (endedOf 1 take-kinds.ps take-kinds.r) κs)
-    → take-promise.Post κs a p s → take-promise.Post κs a q t → (p ≡ q) × (now (s .1 .0) ≡ now (t .1 .0))
+pub take-settled : SettlesBoth 1 take-kinds.ps take-kinds.r take-promise.Post (λ κs s. now (s .1 .0))
 take-settled κs a p q s t e f = same-outcome p q _ _ (settled _ _ e f)
 
 pub start-asks-nothing : AsksNothing 0 start-kinds.ps start-promise.Pre

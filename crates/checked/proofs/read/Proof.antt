@@ -80,13 +80,12 @@ returns-3 : tie.Need-returns-3
 returns-3 c =
     let s = c .before .before in
     let e = s .before .before in
-    let k = e .before in
-    let d = k .before .before .before .before .before .before in
+    let d = e .before .before .before .before .before .before .before in
     let q = d .before .before in
     let o = q .before in
     let a = o .before .before .before .args in
     passed (a .mode) (a .chips .now) (a .report .now) _ (o .aside .ensures) _ (q .room-for .ensures) _ _ (d .read .ensures) (d .read .kept .1 .1 .0)
-    (k .before .before .before .if1 .left) _ (k .check .ensures) (e .if2 .left) _ (s .store .ensures)
+    (e .before .before .before .before .if1 .left) _ (e .before .check .ensures) (e .if2 .left) _ (s .store .ensures)
 
 pub read-spec : {M : Type 1} → statement M
 read-spec =
