@@ -10,12 +10,5 @@ pub mod First
 pub mod Unique
 pub mod Facts
 pub mod Printed
-pub mod Runs
 pub mod Rule
-pub mod Laid
-pub mod Leasts
-pub mod Judging
-pub mod Bits
-pub mod Words
-pub mod Turned
 pub mod Settled

@@ -1,7 +1,6 @@
 -- The turning and inverting rule, chip by chip: one test that antt computes over every chip of a
--- radio's words, 512 of mode 1's and 256 of mode 2's, and what it says of each, of the definition's
--- words and of the strip that the writer copies from. Assumes nothing.
-use mathlib.Core.Path.{_≡_, refl, ap, _∙_}
+-- radio's words, 512 of mode 1's and 256 of mode 2's, and what it says of each. Assumes nothing.
+use mathlib.Core.Path.{_≡_, refl}
 use mathlib.Core.Bool.{Bool, true}
 use mathlib.Core.List.{List}
 use Prim.Native.Nat.{ℕ, _+_, _-_, _*_, _%_, _<_}
@@ -9,12 +8,9 @@ use lib.ListN.{length, getD}
 use lib.Dec.{eqb, ltb}
 use borrow.Author.Tests.{eqb-true}
 use Rattle.codes.specs.Chips.{pick}
-use Rattle.codes.specs.Radio.{Radio, radioOf, known, oqpsk, lowband, word}
+use Rattle.codes.specs.Radio.{Radio, oqpsk, lowband, word}
 use Rattle.codes.specs.Radio.{oqpskWord, oqpskWords, lowbandWord, lowbandWords, turned, turns, oddInverted, turnedWords}
-use Rattle.codes.specs.Strip.{stripAt, rowAt}
 use Rattle.codes.proofs.Tests.{every, each}
-use Rattle.codes.proofs.Chips.{window-chip}
-use Rattle.codes.proofs.Runs.{strip-row}
 
 -- chip k of symbol v below 8: of symbol 0's word w, turned right v times by so many chips
 abbrev pub turnedChip : ℕ → List ℕ → ℕ → ℕ → ℕ
@@ -38,12 +34,6 @@ module _ (r : Radio) (by : ℕ) (w : List ℕ) where
 
   ruled-chip : allRuled ≡ true → (v k : ℕ) → v < 16 → k < r .size → getD (word r v) k 0 ≡ ruleChip by w v k
   ruled-chip t v k hv hk = eqb-true _ _ (each (ruled v) (r .size) (each wordRuled 16 t v hv) k hk)
-
--- chip k of a word, and of the strip from the word's row on
-pub strip-chip : (mode : ℕ) → known mode ≡ true → (v k : ℕ) → v < length (radioOf mode .words) → k < radioOf mode .size
-    → getD (stripAt mode) (rowAt mode v + k) 0 ≡ getD (word (radioOf mode) v) k 0
-strip-chip mode h v k hv hk =
-    window-chip (stripAt mode) (rowAt mode v) (radioOf mode .size) k hk ∙ ap (λ (u : List ℕ). getD u k 0) (strip-row mode h v hv)
 
 -- mode 1: four chips a turn
 pub oqpsk-ruled : allRuled oqpsk 4 oqpskWord ≡ true

@@ -15,14 +15,6 @@ use Rattle.codes.proofs.phy_of.Kinds as phy-of-kinds
 use Rattle.codes.proofs.phy_of.Reads as phy-of-promise
 use Rattle.codes.proofs.gather.Kinds as gather-kinds
 use Rattle.codes.proofs.gather.Reads as gather-promise
-use Rattle.codes.proofs.nearest.Kinds as nearest-kinds
-use Rattle.codes.proofs.nearest.Reads as nearest-promise
-use Rattle.codes.proofs.judge.Kinds as judge-kinds
-use Rattle.codes.proofs.judge.Reads as judge-promise
-use Rattle.codes.proofs.strips.strip.Kinds as strip-kinds
-use Rattle.codes.proofs.strips.strip.Reads as strip-promise
-use Rattle.codes.proofs.strips.row_of.Kinds as row-of-kinds
-use Rattle.codes.proofs.strips.row_of.Reads as row-of-promise
 
 pub settled : {A : Type 0} {x : A} (p q : A) → p ≡ x → q ≡ x → p ≡ q
 settled p q e f = e ∙ sym f
@@ -55,32 +47,8 @@ phy-of-settled κs a p q s t = settled p q
 pub gather-settled : Settles 1 gather-kinds.ps gather-kinds.r gather-promise.Post
 gather-settled κs a p q s t = settled p q
 
-pub nearest-settled : Settles 0 nearest-kinds.ps nearest-kinds.r nearest-promise.Post
-nearest-settled κs a p q s t = settled p q
-
-pub judge-settled : Settles 0 judge-kinds.ps judge-kinds.r judge-promise.Post
-judge-settled κs a p q s t = settled p q
-
-pub strip-settled : Settles 0 strip-kinds.ps strip-kinds.r strip-promise.Post
-strip-settled κs a p q s t = settled p q
-
-pub row-of-settled : Settles 0 row-of-kinds.ps row-of-kinds.r row-of-promise.Post
-row-of-settled κs a p q s t = settled p q
-
 pub phy-of-asks-nothing : AsksNothing 0 phy-of-kinds.ps phy-of-promise.Pre
 phy-of-asks-nothing κs a = tt
 
 pub gather-asks-nothing : AsksNothing 1 gather-kinds.ps gather-promise.Pre
 gather-asks-nothing κs a = tt
-
-pub nearest-asks-nothing : AsksNothing 0 nearest-kinds.ps nearest-promise.Pre
-nearest-asks-nothing κs a = tt
-
-pub judge-asks-nothing : AsksNothing 0 judge-kinds.ps judge-promise.Pre
-judge-asks-nothing κs a = tt
-
-pub strip-asks-nothing : AsksNothing 0 strip-kinds.ps strip-promise.Pre
-strip-asks-nothing κs a = tt
-
-pub row-of-asks-nothing : AsksNothing 0 row-of-kinds.ps row-of-promise.Pre
-row-of-asks-nothing κs a = tt

@@ -1,7 +1,6 @@
 -- What a reader must believe of the radios: the numbers given back, distance, the radios, reading
--- one symbol. The rest is not among it: `Packed`, `Gathered`, `Columns` and `Near` are what the
--- code computes, shown equal, `Phy` the numbers that it goes by, and `Strip` what the writer copies
--- from.
+-- one symbol. The rest is not among it: `Packed` and `Gathered` are what the code computes, shown
+-- equal, and `Phy` the numbers that it goes by.
 pub mod Numbers
 pub mod Chips
 pub mod Radio
@@ -9,6 +8,3 @@ pub mod Symbol
 pub mod Packed
 pub mod Gathered
 pub mod Phy
-pub mod Columns
-pub mod Near
-pub mod Strip

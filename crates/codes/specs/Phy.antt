@@ -1,5 +1,6 @@
 -- Not to be believed: a radio's numbers as the code has them, those of its row, how its symbols are
--- gathered, and word 0 so gathered, shown to serve in proofs/Gathering.antt and proofs/Runs.antt.
+-- gathered, and word 0 so gathered, shown to serve in proofs/Gathering.antt and, for the writer's
+-- strip, in `strips`.
 use Prim.Native.Nat.{ℕ, _/_, _^_}
 use mathlib.Core.Bool.{false}
 use Rattle.codes.specs.declared.Phy.{Phy}

@@ -1,26 +1,15 @@
-// The radios' numbers, a symbol's chips gathered as bits, and the symbol that the bits say. What
-// radios differ in stands in rows, one for each, and a mode number is looked up there once; all
-// else goes by the row's numbers. Whoever reads gathers a symbol's chips eight at a time, each
-// eight tested as it is gathered, asks `nearest` for the nearest word and has `judge` say whether
-// it is near enough. That at most one word lies within the limit is a law over word length, number
-// of words and limit (proofs/Unique.antt), so the nearest word, where it is within the limit, is
-// that one (proofs/Judging.antt); how far the words are is counted on the bits (fifteen.rt,
-// columns.rt). That the symbol of the bits is that of the chips is shown in proofs/Gathering.antt.
+// The radios' numbers, and a symbol's chips gathered as bits. What radios differ in stands in rows,
+// one for each, and a mode number is looked up there once; all else goes by the row's numbers.
+// Whoever reads gathers a symbol's chips eight at a time, each eight tested as it is gathered, and
+// has the bits matched (the room `matching`). That at most one word lies within the limit is a law
+// over word length, number of words and limit (proofs/Unique.antt); that the symbol of the bits is
+// that of the chips is shown in proofs/Gathering.antt.
 ghost use mathlib.Core.Path.{_≡_};
 ghost use Prim.Native.Nat.{_+_, _≤_};
 ghost use lib.ListN.{length};
-ghost use Rattle.codes.specs.Symbol.{refused};
 ghost use Rattle.codes.specs.Packed.{from, packed};
 ghost use Rattle.codes.specs.Gathered.{gathered, gatheredAt};
 ghost use Rattle.codes.specs.Phy.{phyAt};
-ghost use Rattle.codes.specs.Near.{nearestIn, judgedAt};
-
-mod columns;
-mod fifteen;
-mod strips;
-
-pub use strips::row_of;
-pub use strips::strip;
 
 // The numbers given back (specs/Numbers.antt).
 pub const DONE: u32 = 0;
@@ -217,51 +206,4 @@ fn wide(byte: u8) -> u64
     ensures { λ r. ⌜ r ≡ byte ⌝ }
 {
     byte as u64
-}
-
-// The word nearest to the chips that gathered bits hold, the lowest number on a tie: 16 times its
-// distance and its number, in one value, which goes from function to function without a store. 0
-// for a mode that has no radio.
-pub fn nearest(mode: u32, bits: u64) -> u32
-    ensures { λ r. ⌜ r ≡ nearestIn mode bits ⌝ }
-{
-    if mode == 0 {
-        return fifteen::nearest(bits);
-    }
-    if mode == 1 {
-        return columns::nearest_of_four(bits);
-    }
-    if mode == 2 {
-        return columns::nearest_of_two(bits);
-    }
-    0
-}
-
-// The symbol that the nearest word says, where it is within the limit: 1 and 6 in that order.
-pub fn judge(mode: u32, near: u32) -> Symbol
-    ensures { λ r. ⌜ r ≡ judgedAt mode near ⌝ }
-{
-    let phy = phy_of(mode);
-    if phy.size == 0 {
-        return refusal(BADMODE);
-    }
-    if near / 16 <= phy.limit {
-        return Symbol {
-            number: DONE,
-            value: near % 16,
-            distance: near / 16,
-        };
-    }
-    refusal(LOST)
-}
-
-// A refusal's other numbers are 0.
-fn refusal(number: u32) -> Symbol
-    ensures { λ r. ⌜ r ≡ refused number ⌝ }
-{
-    Symbol {
-        number,
-        value: 0,
-        distance: 0,
-    }
 }

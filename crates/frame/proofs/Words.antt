@@ -7,8 +7,8 @@ use native.Mathlib.Omega.{arith}
 use lib.ListN.{length, take, drop, length-drop}
 use lib.Seq.{paste, take-paste}
 use Rattle.codes.specs.Radio.{radioOf, word, known}
-use Rattle.codes.specs.Strip.{stripAt, rowAt}
-use Rattle.codes.proofs.Runs.{strip-row, strip-long, strip-fits}
+use Rattle.strips.specs.Strip.{stripAt, rowAt}
+use Rattle.strips.proofs.Runs.{strip-row, strip-long, strip-fits}
 use Rattle.frame.specs.Putting.{over}
 use Rattle.frame.proofs.Over.{over-paste}
 

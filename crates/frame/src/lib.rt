@@ -8,7 +8,7 @@ ghost use lib.ListN.{length, getD, drop};
 ghost use lib.Seq.{paste};
 ghost use Rattle.codes.specs.Chips.{pick};
 ghost use Rattle.codes.specs.Radio.{known, radioOf, word};
-ghost use Rattle.codes.specs.Strip.{stripAt};
+ghost use Rattle.strips.specs.Strip.{stripAt};
 ghost use Rattle.frame.specs.Outcome.{outcome};
 ghost use Rattle.frame.specs.Frame.{octets, rawOf, encode, symbols, chipsOf};
 ghost use Rattle.frame.specs.Write.{refused, written};
@@ -60,13 +60,13 @@ fn put_frame(mode: u32, report: &[u8], out: &mut [u8])
     ensures { λ _. ⌜ now (out .exit) ≡ over (now (out .entry)) 0 (chipsOf (radioOf mode) (symbols (radioOf mode) (now (report .entry)))) ⌝ }
 {
     if mode == 0 {
-        let words = codes::strip(0);
+        let words = strips::strip(0);
         put_octets(0, &words, report, out);
     } else if mode == 1 {
-        let words = codes::strip(1);
+        let words = strips::strip(1);
         put_octets(1, &words, report, out);
     } else if mode == 2 {
-        let words = codes::strip(2);
+        let words = strips::strip(2);
         put_octets(2, &words, report, out);
     }
 }
@@ -152,7 +152,7 @@ fn put_symbol(mode: u32, words: &[u8; 128], v: usize, out: &mut [u8], at: usize)
 {
     let size = codes::phy_of(mode).size;
     let mut word = [0u8; 32];
-    put_word(words, codes::row_of(mode, v), size, &mut word, 0);
+    put_word(words, strips::row_of(mode, v), size, &mut word, 0);
     put_word(&word, 0, size, out, at);
 }
 

@@ -137,13 +137,13 @@ fn take_symbol(mode: u32, hand: Hand, bits: u64) -> Hand
     ensures { λ r. ⌜ r ≡ followed mode hand (symbolIn mode bits) ⌝ }
 {
     if mode == 0 {
-        return follow(0, hand, codes::judge(0, codes::nearest(0, bits)));
+        return follow(0, hand, matching::judge(0, matching::nearest(0, bits)));
     }
     if mode == 1 {
-        return follow(1, hand, codes::judge(1, codes::nearest(1, bits)));
+        return follow(1, hand, matching::judge(1, matching::nearest(1, bits)));
     }
     if mode == 2 {
-        return follow(2, hand, codes::judge(2, codes::nearest(2, bits)));
+        return follow(2, hand, matching::judge(2, matching::nearest(2, bits)));
     }
     stop(codes::BADMODE, hand)
 }

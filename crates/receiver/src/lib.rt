@@ -210,7 +210,7 @@ fn read_by_mode(mode: u32, part: &[u8]) -> codes::Symbol
     if mode == 2 {
         return read_part(2, part);
     }
-    codes::judge(mode, 0)
+    matching::judge(mode, 0)
 }
 
 // The symbol of a part that is one symbol long: gathered and matched as the reader does it.
@@ -231,7 +231,7 @@ fn read_part(mode: u32, part: &[u8]) -> codes::Symbol
         }
         k += 1;
     }
-    codes::judge(mode, codes::nearest(mode, bits))
+    matching::judge(mode, matching::nearest(mode, bits))
 }
 
 // All 0 but the mode and the number.

@@ -1,8 +1,8 @@
 -- `take_symbol` meets its contract: a radio a branch. Assumes nothing.
 use mathlib.Core.Path.{ap, _∙_}
-use Rattle.codes.specs.Near.{judgedAt}
+use Rattle.matching.specs.Near.{judgedAt}
 use Rattle.codes.proofs.Modes.{unknown}
-use Rattle.codes.proofs.Judging.{near-symbol}
+use Rattle.matching.proofs.Judging.{near-symbol}
 use Rattle.reader.specs.Taking.{followed}
 use Rattle.reader.proofs.Steps.{follow-no-radio}
 use borrow.Author.Needs.{needs}

@@ -4,9 +4,9 @@ use Prim.Native.Nat.{_-_}
 use mathlib.Core.Path.{sym, ap, _∙_}
 use native.Mathlib.Omega.{arith}
 use Rattle.codes.specs.Radio.{radioOf}
-use Rattle.codes.specs.Near.{judgedAt}
+use Rattle.matching.specs.Near.{judgedAt}
 use Rattle.codes.proofs.Unique.{nochip-of}
-use Rattle.codes.proofs.Judging.{near-symbol}
+use Rattle.matching.proofs.Judging.{near-symbol}
 use Rattle.codes.proofs.Gathering.{Loop, loop-starts, loop-goes-on, loop-stops, loop-ends}
 use Rattle.receiver.proofs.read_part.Statement.{statement}
 use Rattle.receiver.proofs.read_part.Tie as tie

@@ -1,0 +1,3 @@
+-- Laws of the strip.
+pub mod Runs
+pub mod Settled
