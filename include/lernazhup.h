@@ -37,12 +37,12 @@
  * right FCS; in mode 0, where a misread symbol turns two bits, one in 33,000, and of a report of
  * fewer than 13 octets one in 6,300. (Reckoned for two misread symbols or more, each by itself and
  * as likely as the next.) A misread length may be right by chance, too, and one that is up to four
- * too long passes where the next frame comes at once: its preamble is zeros, and zeros behind a
- * right FCS leave it right. A frame of somebody else's making, or an old one sent again, has a
- * right FCS. And octets that are all 0 have the FCS 0, which would pass: hence LERNAZHUP_ALLZERO,
- * since zeros are what an unplugged rope gives. That is for zeros throughout: behind any octet that
- * isn't 0, as behind the header of a MAC frame, zeros pass, and to look at what a report carries is
- * the gateway's part.
+ * too long passes where the next frame comes at once (in mode 0 not always): its preamble is zeros,
+ * and zeros behind a right FCS leave it right. A frame of somebody else's making, or an old one
+ * sent again, has a right FCS. And octets that are all 0 have the FCS 0, which would pass: hence
+ * LERNAZHUP_ALLZERO, since zeros are what an unplugged rope gives. That is for zeros throughout:
+ * behind any octet that isn't 0, as behind the header of a MAC frame, zeros pass, and to look at
+ * what a report carries is the gateway's part.
  *
  * Who finds the frame: the caller. The first chip of a buffer is taken for the first chip of the
  * preamble, and no other beginning is looked for. In a stream, try one chip after the other as the
