@@ -33,7 +33,8 @@ use Rattle.fcs.specs.Fcs.{fcsOctets, withFcs}
 use Rattle.fcs.proofs.Remainder.{with-long, with-below}
 use Rattle.checked.specs.Profile.{allZero, body, checkOf, checkedAnswer, readCheckedOf, writtenChecked}
 use Rattle.checked.proofs.Tests.{short-check}
-use Rattle.checked.proofs.Passing.{check-wrong, check-zeros, not-zeros, body-not-zeros, passes-check, check-passes, check-numbers, are-zeros, zeros-are, with-body}
+use Rattle.checked.proofs.Passing.{check-wrong, check-zeros, passes-check, check-passes, check-numbers}
+use Rattle.checked.proofs.Passing.{zeros-are, are-zeros, not-zeros, body-not-zeros, with-body}
 use Rattle.demands.specs.Words.{Report, success}
 use Rattle.demands.specs.Calls.{Call, after, counted, inOrder, tells}
 use Rattle.demands.specs.Profile.{Passes}
