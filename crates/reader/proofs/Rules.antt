@@ -68,10 +68,6 @@ module _ (per s : ℕ) (i : (s + 1) % per ≡ 0 → ⊥) where
 
 -- the tests in order, with room for every report
 module _ (per s raw start n : ℕ) where
-  pub rules-7 : both (ltb s (4 * per)) (not (eqb raw 0)) ≡ true → rules per 127 s raw start n ≡ PREAMBLE
-  unfolding rules
-  rules-7 a = rw a
-
   module _ (a : both (ltb s (4 * per)) (not (eqb raw 0)) ≡ false) where
     pub rules-8 : both (ends per 4 s) (not (eqb start startOctet)) ≡ true → rules per 127 s raw start n ≡ BADSTART
     unfolding rules
