@@ -105,8 +105,8 @@ static void make_frame(struct made *made, uint32_t longest)
         octets[4] = chance(70) ? starts[pick(sizeof starts)] : (uint8_t)pick(256);
         note("start octet %ld", octets[4]);
     }
-    if (chance(6)) {
-        octets[5] |= 128;
+    if (chance(20)) {
+        octets[5] |= RESERVED_BIT;
         note("reserved bit set", 0);
     }
     if (chance(1)) {
@@ -402,17 +402,20 @@ void make_chips(struct made *made, uint32_t longest)
         spoil(made);
 }
 
-void make_edge_frame(struct made *made, uint32_t mode, const uint8_t *report, uint32_t n,
-    uint32_t more)
+void make_edge_frame(struct made *made, uint32_t mode, uint32_t reserved, const uint8_t *report, uint32_t n, uint32_t more)
 {
+    uint8_t octets[6 + 127] = { 0, 0, 0, 0, 0xA7 };
     uint32_t last, s;
 
     notes_clear();
     note("frame of %ld octets, as many errors as accepted in each symbol", n);
     note("%ld more in the last", more);
+    note("length octet with %ld", reserved);
+    octets[5] = (uint8_t)(n | reserved);
+    memcpy(octets + 6, report, n);
     made->mode = mode;
     made->n = n;
-    made->frame = made->length = reference_write(mode, report, n, made->chips, MADE_MAX).chips;
+    made->frame = made->length = reference_spread(mode, octets, 6 + n, made->chips);
     last = symbols_of(made) - 1;
     for (s = 0; s <= last; s++)
         disturb_symbol(made, s, reference_limit(mode) + (s == last ? more : 0));

@@ -236,8 +236,36 @@ static void try_taking(uint32_t mode, uint32_t n)
     check_take(record, n + 1);
 }
 
-/* Every length, in every mode: at the accepted distance, one chip farther in the last symbol, and
- * with rooms at the edge. */
+/* The frame in hand, symbol by symbol, into rooms at the edge. */
+static void try_pushing(void)
+{
+    size_t size = reference_chips(made.mode), at;
+    lernazhup_receiver record = check_start(made.mode);
+
+    for (at = 0; at < made.length; at += size)
+        record = honest(check_push(record, made.chips + at, size));
+    if (made.n > 0)
+        check_take(record, made.n - 1);
+    check_take(record, made.n);
+    check_take_is_read(record);
+}
+
+/* A report's frame, with the reserved bit or 0: at the accepted distance, one chip farther in the
+ * last symbol, and with rooms at the edge. */
+static void try_frame(uint32_t mode, uint32_t reserved, const uint8_t *report, uint32_t n)
+{
+    make_edge_frame(&made, mode, reserved, report, n, 0);
+    check_read(PLAIN, mode, made.chips, made.length, n);
+    check_read(PLAIN, mode, made.chips, made.length, n + 1);
+    if (n > 0)
+        check_read(PLAIN, mode, made.chips, made.length, n - 1);
+    check_read(PLAIN, mode, made.chips, made.length - 1, n);
+    try_pushing();
+    make_edge_frame(&made, mode, reserved, report, n, 1);
+    check_read(PLAIN, mode, made.chips, made.length, 127);
+}
+
+/* Every length, in every mode. */
 static void try_every_length(void)
 {
     uint32_t mode, n, each;
@@ -245,14 +273,8 @@ static void try_every_length(void)
     for (each = 0; each < MODES * 128; each++) {
         mode = each % MODES;
         n = each / MODES;
-        make_edge_frame(&made, mode, pick_junk(), n, 0);
-        check_read(PLAIN, mode, made.chips, made.length, n);
-        check_read(PLAIN, mode, made.chips, made.length, n + 1);
-        if (n > 0)
-            check_read(PLAIN, mode, made.chips, made.length, n - 1);
-        check_read(PLAIN, mode, made.chips, made.length - 1, n);
-        make_edge_frame(&made, mode, pick_junk(), n, 1);
-        check_read(PLAIN, mode, made.chips, made.length, 127);
+        try_frame(mode, 0, pick_junk(), n);
+        try_frame(mode, RESERVED_BIT, pick_junk(), n);
         notes_clear();
         check_write(PLAIN, mode, pick_junk(), n, made.frame);
         check_write(PLAIN, mode, pick_junk(), n, made.frame - 1);
@@ -267,10 +289,12 @@ static void try_every_length(void)
 static void try_checked_reading(uint32_t mode, const uint8_t *report, uint32_t n)
 {
     check_check(report, n);
-    make_edge_frame(&made, mode, report, n, 0);
+    make_edge_frame(&made, mode, RESERVED_BIT, report, n, 0);
+    check_read(CHECKED, mode, made.chips, made.length, n);
+    make_edge_frame(&made, mode, 0, report, n, 0);
     check_read(CHECKED, mode, made.chips, made.length, n);
     check_read(CHECKED, mode, made.chips, made.length, n + 1);
-    make_edge_frame(&made, mode, report, n, 1);
+    make_edge_frame(&made, mode, 0, report, n, 1);
     check_read(CHECKED, mode, made.chips, made.length, 127);
     if (n > 0)
         check_read(CHECKED, mode, made.chips, made.length, n - 1);

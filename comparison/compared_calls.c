@@ -427,15 +427,15 @@ void check_fcs(const uint8_t *octets, size_t length)
 /* ---- Was each number met? ---- */
 
 /* Document 01's table "Numbers given back" and document 02's refusals, by function. */
-static const int8_t columns_of[FUNCTIONS][13] = {
+static const int8_t columns_of[FUNCTIONS][12] = {
     { 0, 1, 2, 3, -1 },
-    { 0, 1, 3, 4, 5, 6, 7, 8, 9, -1 },
+    { 0, 1, 3, 4, 5, 6, 7, 8, -1 },
     { 1, 13, -1 },
-    { 0, 5, 6, 7, 8, 9, 10, 11, 13, FORGED, -1 },
+    { 0, 5, 6, 7, 8, 10, 11, 13, FORGED, -1 },
     { 4, 10, FORGED, -1 },
-    { 0, 1, 3, 4, 5, 6, 7, 8, 9, 12, FORGED, -1 },
+    { 0, 1, 3, 4, 5, 6, 7, 8, 12, FORGED, -1 },
     { 0, 1, 2, 3, 14, 16, -1 },
-    { 0, 1, 3, 4, 5, 6, 7, 8, 9, 14, 15, 16, -1 },
+    { 0, 1, 3, 4, 5, 6, 7, 8, 14, 15, 16, -1 },
     { 0, 14, 15, 16, -1 }
 };
 

@@ -190,6 +190,39 @@ static void readings(void)
     fact("empty report, mode 2", is_reading(reference_read(2, chips, 192, room, 127), LERNAZHUP_DONE, 12, 0, 0));
 }
 
+/* The frame of the first five octets with the reserved bit set. */
+static size_t spread_reserved(uint32_t mode)
+{
+    uint8_t octets[6 + 5] = { 0, 0, 0, 0, 0xA7, 0x85 };
+
+    memcpy(octets + 6, report, 5);
+    return reference_spread(mode, octets, sizeof octets, chips);
+}
+
+/* A frame with the reserved bit set reads as the one without. In mode 0 it differs from it in every
+ * chip from symbol 47 on, in modes 1 and 2 in symbol 11 alone. */
+static void reserved_bit(void)
+{
+    static uint8_t plain[LERNAZHUP_CHIPS_MAX];
+    uint8_t room[127];
+    uint32_t mode;
+
+    for (mode = 0; mode < MODES; mode++) {
+        uint32_t size = reference_chips(mode), symbols = 11 * reference_per_octet(mode), last = 6 * reference_per_octet(mode) - 1, s;
+
+        reference_write(mode, report, 5, plain, sizeof plain);
+        fact("reserved bit", is_reading(reference_read(mode, chips, spread_reserved(mode), room, 5), LERNAZHUP_DONE, symbols, 5, 0));
+        fact("reserved bit", memcmp(room, report, 5) == 0);
+        fact("reserved bit, 3", is_reading(reference_read(mode, chips, sizeof chips, room, 4), LERNAZHUP_NOROOM, last, 0, 0));
+        for (s = 0; s < symbols; s++) {
+            uint32_t places = apart(chips + s * size, plain + s * size, size);
+
+            fact("reserved bit, chips", (places > 0) == (mode == 0 ? s >= last : s == last));
+            fact("reserved bit, mode 0", mode != 0 || places == 0 || places == size);
+        }
+    }
+}
+
 /* A mode above 2 is refused whole; cut to 8 or 16 bits most of these would be a radio's. */
 static void no_radio(void)
 {
@@ -268,6 +301,7 @@ int facts_hold(void)
     lengths(1, 384, 64, 8512);
     lengths(2, 192, 32, 4256);
     readings();
+    reserved_bit();
     no_radio();
     checks();
     checked_frames();

@@ -1,5 +1,6 @@
 /*
- * The reference: document 01 in plain C, with the third radio and the frame check of document 02.
+ * The reference: document 01 in plain C, with document 02's third radio, frame check and reserved
+ * bit.
  * It is meant for being checked by eye with 01 in the other hand, so it follows 01's words and
  * order and does nothing for speed: each symbol is compared with every word, chip by chip.
  *
@@ -233,9 +234,8 @@ lernazhup_reading reference_read(uint32_t mode, const uint8_t *chips, size_t chi
         if (s + 1 == 5 * radio->per_octet && octet_of(radio, raw, 4) != START_OCTET)
             return refused(LERNAZHUP_BADSTART, s);
         if (s + 1 == 6 * radio->per_octet) {
-            if (octet_of(radio, raw, 5) >= 128)
-                return refused(LERNAZHUP_RESERVED, s);
-            n = octet_of(radio, raw, 5);
+            /* The top bit is reserved, and not looked at. */
+            n = octet_of(radio, raw, 5) % 128;
             if (report_len < n)
                 return refused(LERNAZHUP_NOROOM, s);
         }
@@ -313,14 +313,12 @@ static lernazhup_step take_symbol(const struct radio *radio, lernazhup_receiver 
         return ended_by(LERNAZHUP_PREAMBLE, r);
     if (next == 5 * per_octet && octet != START_OCTET)
         return ended_by(LERNAZHUP_BADSTART, r);
-    if (next == 6 * per_octet && octet >= 128)
-        return ended_by(LERNAZHUP_RESERVED, r);
     r.taken = next;
     r.count += away;
     r.last = value;
     r.octet = octet;
     if (next == 6 * per_octet)
-        r.length = octet;
+        r.length = octet % 128;
     if (next >= 7 * per_octet && next % per_octet == 0)
         r.octets[next / per_octet - 7] = (uint8_t)octet;
     r.ended = next == symbols_in_frame(radio, r.length) ? LERNAZHUP_DONE : LERNAZHUP_MORE;

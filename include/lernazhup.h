@@ -86,10 +86,10 @@ extern "C" {
 /* The version of this header. The major number rises where a struct grows or a number, a name or a
  * rule goes or changes its meaning, so that callers have to do something (CHANGELOG.md says what);
  * the minor number where something is added; the last where nothing changes that a caller sees. */
-#define LERNAZHUP_VERSION_MAJOR 1
-#define LERNAZHUP_VERSION_MINOR 2
-#define LERNAZHUP_VERSION_PATCH 1
-#define LERNAZHUP_VERSION "1.2.1"
+#define LERNAZHUP_VERSION_MAJOR 2
+#define LERNAZHUP_VERSION_MINOR 0
+#define LERNAZHUP_VERSION_PATCH 0
+#define LERNAZHUP_VERSION "2.0.0"
 
 /* The numbers given back. */
 #define LERNAZHUP_DONE 0u      /* done                                   write, read, push, take */
@@ -101,7 +101,6 @@ extern "C" {
 #define LERNAZHUP_LOST 6u      /* symbol lost                            read, push; take */
 #define LERNAZHUP_PREAMBLE 7u  /* preamble not zero                      read, push; take */
 #define LERNAZHUP_BADSTART 8u  /* wrong start octet                      read, push; take */
-#define LERNAZHUP_RESERVED 9u  /* reserved bit set                       read, push; take */
 #define LERNAZHUP_ENDED 10u    /* receiver already ended                 push, finish */
 #define LERNAZHUP_BADPART 11u  /* part isn't exactly one symbol long     push */
 #define LERNAZHUP_NOTENDED 12u /* receiver not ended yet                 take */
@@ -112,8 +111,8 @@ extern "C" {
 #define LERNAZHUP_FORGED 34u   /* record that these calls don't make     push, finish, take */
 /* "write" and "read" stand for write_checked and read_checked as well, and from LERNAZHUP_TOOFEW to
  * LERNAZHUP_ALLZERO for these alone. Check gives LERNAZHUP_DONE, too. "; take": take repeats the
- * number of a record that ended with it. A lost symbol is one that no code word is near enough to;
- * the reserved bit is the top bit of the length octet. */
+ * number of a record that ended with it. A lost symbol is one that no code word is near enough to.
+ * 9 is withdrawn, and not used again: it was a length octet with its reserved bit set. */
 
 /* Sizes: the octets of the longest report, and of the longest that the FCS can be appended to; in
  * each mode the chips of a symbol, how many of them may be wrong, and the chips of the longest
@@ -196,12 +195,13 @@ lernazhup_written lernazhup_write(uint32_t mode, const uint8_t *report, size_t r
 
 /* Reads the frame that the chips begin with and stores its report.
  * Done: the first n bytes of the report buffer are the report; later ones keep their values. Chips
- * after the frame are not looked at. With a buffer of LERNAZHUP_REPORT_MAX bytes there is room for
- * every report.
+ * after the frame are not looked at, and neither is the length octet's top bit, which is reserved:
+ * the writer writes it as 0, others may not. With a buffer of LERNAZHUP_REPORT_MAX bytes there is
+ * room for every report.
  * Refused: LERNAZHUP_BADMODE with place 0; then at each symbol in turn LERNAZHUP_RUNOUT,
- * LERNAZHUP_NOCHIP, LERNAZHUP_LOST, LERNAZHUP_PREAMBLE, LERNAZHUP_BADSTART, LERNAZHUP_RESERVED and
- * LERNAZHUP_NOROOM, in that order; the first thing found wrong ends the reading, and the report
- * buffer stays as it was. */
+ * LERNAZHUP_NOCHIP, LERNAZHUP_LOST, LERNAZHUP_PREAMBLE, LERNAZHUP_BADSTART and LERNAZHUP_NOROOM, in
+ * that order; the first thing found wrong ends the reading, and the report buffer stays as it
+ * was. */
 lernazhup_reading lernazhup_read(uint32_t mode, const uint8_t *chips, size_t chips_len,
                                  uint8_t *report, size_t report_len);
 
@@ -241,7 +241,7 @@ lernazhup_step lernazhup_start(uint32_t mode);
 
 /* Takes one symbol's chips, LERNAZHUP_SYMBOL_CHIPS(mode) bytes.
  * LERNAZHUP_MORE: go on. LERNAZHUP_DONE: the frame is complete, and the record has ended well.
- * LERNAZHUP_NOCHIP to LERNAZHUP_RESERVED: the symbol is refused as the reader refuses it, the
+ * LERNAZHUP_NOCHIP to LERNAZHUP_BADSTART: the symbol is refused as the reader refuses it, the
  * record has ended with that number, and its other fields are as they were before the symbol.
  * LERNAZHUP_FORGED, LERNAZHUP_ENDED and LERNAZHUP_BADPART, tested first and in that order, give the
  * record back as it was. */

@@ -14,7 +14,7 @@ const char *lernazhup_meaning(uint32_t number)
     case LERNAZHUP_LOST: return "symbol lost";
     case LERNAZHUP_PREAMBLE: return "preamble not zero";
     case LERNAZHUP_BADSTART: return "wrong start octet";
-    case LERNAZHUP_RESERVED: return "reserved bit set";
+    case 9: return "withdrawn"; /* it was the reserved bit's, and is not used again */
     case LERNAZHUP_ENDED: return "receiver already ended";
     case LERNAZHUP_BADPART: return "part isn't exactly one symbol long";
     case LERNAZHUP_NOTENDED: return "receiver not ended yet";

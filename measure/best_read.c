@@ -191,9 +191,8 @@ static uint32_t repaired(uint32_t mode, uint32_t symbols, const struct progress 
 static int fits(const uint8_t *header, size_t chips_len, size_t octet_chips, size_t report_len)
 {
     static const uint8_t expected[5] = {0, 0, 0, 0, 0xA7};
-    size_t n = header[5];
-    return memcmp(header, expected, 5) == 0 && n <= LERNAZHUP_REPORT_MAX && n <= report_len &&
-           (HEADER + n) * octet_chips <= chips_len;
+    size_t n = header[5] & 127;
+    return memcmp(header, expected, 5) == 0 && n <= report_len && (HEADER + n) * octet_chips <= chips_len;
 }
 
 lernazhup_reading best_read(uint32_t mode, const uint8_t *chips, size_t chips_len, uint8_t *report, size_t report_len)
@@ -211,10 +210,10 @@ lernazhup_reading best_read(uint32_t mode, const uint8_t *chips, size_t chips_le
         read_octets(mode, chips, HEADER, header, &progress);
     if (!fits(header, chips_len, octet_chips, report_len))
         return usual_read(mode, chips, chips_len, report, report_len);
-    read_octets(mode, chips + HEADER * octet_chips, header[5], octets, &progress);
+    read_octets(mode, chips + HEADER * octet_chips, header[5] & 127, octets, &progress);
     if (!sound(&progress))
         return usual_read(mode, chips, chips_len, report, report_len);
-    reading.n = header[5];
+    reading.n = header[5] & 127;
     reading.place = (HEADER + reading.n) * (mode == 0 ? 8 : 2);
     reading.count = repaired(mode, reading.place, &progress);
     if (reading.n > 0)

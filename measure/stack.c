@@ -232,12 +232,13 @@ static void spoil(uint32_t mode)
             chips[symbol + i] ^= 1;
 }
 
-/* What a reader says when the last symbol of an octet has another value, its top bit turned. */
-static uint32_t number_for_other(int which, size_t octet)
+/* What a reader says when the last symbol of an octet has another value, its top bit turned. That
+ * of the length octet is reserved; but in mode 0 the report's first bit turns with it. */
+static uint32_t number_for_other(int which, uint32_t mode, size_t octet)
 {
-    if (octet > 5)
-        return which == READ ? LERNAZHUP_DONE : LERNAZHUP_BADCHECK;
-    return octet < 4 ? LERNAZHUP_PREAMBLE : octet == 4 ? LERNAZHUP_BADSTART : LERNAZHUP_RESERVED;
+    if (octet < 5)
+        return octet < 4 ? LERNAZHUP_PREAMBLE : LERNAZHUP_BADSTART;
+    return which == READ || (octet == 5 && mode != 0) ? LERNAZHUP_DONE : LERNAZHUP_BADCHECK;
 }
 
 /* Reads with the last symbol of an octet made flat, then with a byte in it that isn't a chip, then
@@ -256,7 +257,7 @@ static void measure_broken_reads(int which, uint32_t mode, size_t octet)
     for (i = 0; i < length; i++) /* modes 1 and 2: chips of odd index turn the value's top bit */
         chips[at + i] = (uint8_t)(kept[i] ^ (mode == 0 || i % 2 == 1));
     note(which, mode);
-    expect(reading.number, number_for_other(which, octet), which);
+    expect(reading.number, number_for_other(which, mode, octet), which);
     memcpy(chips + at, kept, length);
     given.chips_len = at + length - 1;
     note(which, mode);

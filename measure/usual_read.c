@@ -96,16 +96,14 @@ static uint32_t header_fault(uint32_t at, uint8_t octet, size_t report_len)
 {
     if (at == START && octet != 0xA7)
         return LERNAZHUP_BADSTART;
-    if (at == LENGTH && octet > LERNAZHUP_REPORT_MAX)
-        return LERNAZHUP_RESERVED;
-    if (at == LENGTH && octet > report_len)
+    if (at == LENGTH && (octet & 127) > report_len)
         return LERNAZHUP_NOROOM;
     return 0;
 }
 
 static lernazhup_reading done(uint32_t place, uint32_t count, const uint8_t *octets, uint8_t *report)
 {
-    lernazhup_reading reading = {LERNAZHUP_DONE, place, octets[LENGTH], count};
+    lernazhup_reading reading = {LERNAZHUP_DONE, place, octets[LENGTH] & 127, count};
     if (reading.n > 0)
         memcpy(report, octets + HEADER, reading.n);
     return reading;
@@ -143,7 +141,7 @@ static lernazhup_reading read_frame(const struct radio *radio, const uint8_t *ch
         }
         octets[at] = octet;
         if (at == LENGTH)
-            total += octet;
+            total += octet & 127;
     }
     return done(place, count, octets, report);
 }

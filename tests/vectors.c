@@ -451,6 +451,33 @@ static void headers(uint32_t mode)
     header("length octet 0x80, no room", mode, 0, 0, 0xA7, 0x80);
 }
 
+/* A frame with the reserved bit set and so many wrong chips at the front of each symbol. In mode 0
+ * the chain turns over there, and with it every chip that follows; in modes 1 and 2 the chips of odd
+ * index in the length octet's last symbol turn. */
+static void reserved_line(const char *what, uint32_t mode, uint32_t octets, size_t room, size_t wrong)
+{
+    uint8_t chips[LONGEST];
+    struct frame frame = frame_of(mode, octets);
+    size_t size = radio_of(mode).size, end = octet_at(mode, 6), last = end - size, i;
+    make(every(flip(frame, 0, wrong), size), chips);
+    for (i = last; i < (mode == 0 ? frame.chips : end); i++)
+        chips[i] ^= mode == 0 || (i - last) % 2 == 1;
+    read_line(what, mode, slice(chips, frame.chips), slice(sample, octets), room);
+}
+
+static void reserved(uint32_t mode)
+{
+    static const uint32_t octets[] = {0, 5, REPORT};
+    size_t k;
+    for (k = 0; k < sizeof octets / sizeof *octets; k++) {
+        reserved_line("reserved bit", mode, octets[k], REPORT, 0);
+        reserved_line("reserved bit, at the limit", mode, octets[k], REPORT, radio_of(mode).limit);
+        reserved_line("reserved bit, room exact", mode, octets[k], octets[k], 1);
+        if (octets[k] > 0)
+            reserved_line("reserved bit, room one short", mode, octets[k], octets[k] - 1, 0);
+    }
+}
+
 /* Each mode's frame in modes that have no radio. Two of them, cut to 8 or 16 bits, would be the
  * mode whose frame it is. */
 static void no_radio(void)
@@ -481,6 +508,7 @@ static void readings_of(uint32_t mode)
     inverted(mode);
     at_the_end(mode);
     headers(mode);
+    reserved(mode);
 }
 
 /* ---- The checked profile ---- */
@@ -836,7 +864,7 @@ static void story(const char *what, struct frame frame, size_t end, size_t from)
 /* Frames pushed whole, cut, and with a refusal of each kind. The last three have another symbol of
  * the frame in the place of one that a rule looks at: the first of the start octet as the last of
  * the preamble, the first of all as the last of the start octet, and the first of the report as the
- * last of the length octet, where it sets the top bit. */
+ * last of the length octet, where it sets the top bit, which is reserved. */
 static void stories(uint32_t mode)
 {
     struct frame five = frame_of(mode, 5), longest = frame_of(mode, 127);
@@ -915,6 +943,7 @@ static void strange(uint32_t mode, struct slice part)
     probe("most", made_up(mode, open, MOST, 127, MOST), part, 127);
     probe("most", made_up(mode, well, MOST, 127, MOST), part, 127);
     probe("refused", made_up(9, 77, MOST, MOST, MOST), part, 127);
+    probe("withdrawn", made_up(mode, 9, 3, 5, 1), part, 127);
     probe("refused", made_up(9, 10, MOST, MOST, MOST), part, 127);
     probe("refused", made_up(9, 34, MOST, MOST, MOST), part, 127);
 }

@@ -5,7 +5,7 @@ use mathlib.Core.List.{[], _∷_}
 use Rattle.codes.specs.Chips.{distance, bad}
 use Rattle.codes.specs.Radio.{oqpsk, bpskWords, oqpskWord, oqpskWords, lowbandWord, lowbandWords, turnedWords, turns, turned, oddInverted}
 use Rattle.codes.specs.Symbol.{within, first, valued, symbolOf}
-use Rattle.frame.specs.Frame.{digits, raws, encode, symbols, chipsOf, frame}
+use Rattle.frame.specs.Frame.{digits, raws, encode, symbolsWith, chipsOf, frame, frameWith}
 use Rattle.reader.specs.Received.{decode, valueOf, octetsFrom}
 use Rattle.reader.specs.Order.{windows, rules, repaired, concluded, taking, readingFrom, reading}
 use Rattle.reader.specs.Read.{told, answerAt}
@@ -25,5 +25,5 @@ pub empty-report : linesOf (frame oqpsk []) ≡
     49 ∷ 32 ∷ 48 ∷ 32 ∷ 49 ∷ 50 ∷ 32 ∷ 48 ∷ 32 ∷ 48 ∷ 10 ∷
     50 ∷ 32 ∷ 54 ∷ 32 ∷ 48 ∷ 32 ∷ 48 ∷ 32 ∷ 48 ∷ 10 ∷ []
 unfolding distance bad bpskWords oqpskWord oqpskWords lowbandWord lowbandWords turnedWords turns turned oddInverted within first valued symbolOf
-    digits raws encode symbols chipsOf frame decode valueOf octetsFrom windows rules repaired concluded taking readingFrom reading told answerAt decimalIn
+    digits raws encode symbolsWith chipsOf frameWith decode valueOf octetsFrom windows rules repaired concluded taking readingFrom reading told answerAt decimalIn
 empty-report = refl

@@ -5,14 +5,16 @@ use mathlib.Core.List.{List, [], _∷_, _++_}
 use Prim.Native.Nat.{ℕ, _+_, _≤_, min}
 use native.Mathlib.Nat.{min-eq-left, min-eq-right}
 use native.Mathlib.Omega.{arith}
-use lib.ListN.{length}
+use lib.ListN.{length, getD}
 use lib.Dec.{ltb}
 use borrow.Author.Tests.{le-ltb, ltb-true, ltb-false}
 use Rattle.codes.specs.Radio.{Radio, radioOf}
 use Rattle.codes.specs.Symbol.{symbolOf}
 use Rattle.codes.specs.declared.Symbol.{Symbol}
 use Rattle.codes.proofs.Tests.{by-test}
-use Rattle.reader.specs.Order.{Answer, ends, rules, taking, readingFrom, reading, whole}
+use Rattle.frame.specs.Frame.{perOctet}
+use Rattle.reader.specs.Received.{received, octetAt}
+use Rattle.reader.specs.Order.{Answer, rules, values, lengthIn, verdict, taking, readingFrom, reading, whole}
 use Rattle.reader.specs.Read.{answerAt}
 
 -- for a length of at most 127 the test of room says the same
@@ -24,18 +26,18 @@ same-test room n h =
     let m = ltb-false room 127 f in
     ap (λ (r : ℕ). ltb r n) (min-eq-right m) ∙ le-ltb 127 n h ∙ sym (le-ltb room n (omega arith)))
 
--- and a greater one is refused before it
-same-rules : (per room s raw start n : ℕ) → rules per (min room 127) s raw start n ≡ rules per room s raw start n
+same-rules : (per room s raw start n : ℕ) → n ≤ 127 → rules per (min room 127) s raw start n ≡ rules per room s raw start n
 unfolding rules
-same-rules per room s raw start n =
-    by-test (ltb 127 n)
-    (λ t. by-test (ends per 5 s) (λ e. rw (e, t)) (λ e. rw e))
-    (λ f. rw (same-test room n (ltb-false 127 n f)))
+same-rules per room s raw start n h = rw (same-test room n h)
 
 module _ (r : Radio) (room : ℕ) where
+  -- and the length that a length octet has is none above it
+  same-verdict : (s : ℕ) (bs : List ℕ) → verdict r (min room 127) s bs ≡ verdict r room s bs
+  same-verdict s bs = same-rules (perOctet r) room s (getD bs s 0) (octetAt r 4 bs) (lengthIn r bs) (omega arith)
+
   same-taking : (before : List Symbol) (x : Symbol) (next : Answer) → taking r (min room 127) before x next ≡ taking r room before x next
   unfolding taking
-  same-taking before x next = rw same-rules
+  same-taking before x next = rw (same-verdict (length before) (received r (values (before ++ x ∷ []))))
 
   same-from : (before : List Symbol) (ws : List (List ℕ)) → readingFrom r (min room 127) before ws ≡ readingFrom r room before ws
   unfolding readingFrom

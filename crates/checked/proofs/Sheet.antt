@@ -9,7 +9,7 @@ use Rattle.codes.specs.Chips.{distance, bad}
 use Rattle.codes.specs.Radio.{lowband, lowbandWord, lowbandWords, turnedWords, turns, turned, oddInverted}
 use Rattle.codes.specs.Symbol.{within, first, valued, symbolOf}
 use Rattle.frame.specs.Outcome.{Outcome, outcome}
-use Rattle.frame.specs.Frame.{digits, raws, encode, symbols, chipsOf, frame}
+use Rattle.frame.specs.Frame.{digits, raws, encode, symbolsWith, chipsOf, frameWith}
 use Rattle.frame.specs.Write.{written}
 use Rattle.reader.specs.declared.Reading.{Reading}
 use Rattle.reader.specs.Received.{decode, valueOf, octetsFrom}
@@ -34,7 +34,7 @@ numberOf mode report = writtenChecked mode report [] .answer .number
 -- The tests of a writing: 1, empty 14, above 125 octets 2, all zero 16, then 3.
 pub write-sheet : (numberOf 3 [] ≡ 1) × (numberOf 2 [] ≡ 14) × (numberOf 2 (replicate 126 0) ≡ 2) × (numberOf 2 (replicate 125 0) ≡ 16)
     × (numberOf 2 (0 ∷ []) ≡ 16) × (numberOf 2 (1 ∷ []) ≡ 3) × (numberOf 2 (replicate 125 1) ≡ 3)
-unfolding writtenChecked written allZero fcsOf registerAfter entered bits digits raws encode symbols chipsOf frame
+unfolding writtenChecked written allZero fcsOf registerAfter entered bits digits raws encode symbolsWith chipsOf frameWith
     lowbandWord lowbandWords turnedWords turns turned oddInverted
 write-sheet = (refl, refl, refl, refl, refl, refl, refl)
 
@@ -42,9 +42,12 @@ write-sheet = (refl, refl, refl, refl, refl, refl, refl)
 abbrev refusal : ℕ → ℕ → List ℕ → Outcome Reading
 refusal x place buffer = outcome (record { number = x; place = place; n = 0; count = 0 }) buffer
 
--- frames of mode 2, read into a buffer
+-- frames of mode 2, with the reserved bit so, read into a buffer
+abbrev readWith : ℕ → List ℕ → List ℕ → Outcome Reading
+readWith bit report buffer = readCheckedOf 2 (frameWith lowband bit report) buffer
+
 abbrev readInto : List ℕ → List ℕ → Outcome Reading
-readInto report buffer = readCheckedOf 2 (frame lowband report) buffer
+readInto report buffer = readWith 0 report buffer
 
 -- The tests of a reading, at the number of symbols in the frame: two octets are 14; a wrong FCS is
 -- 15; three zeros are 16, but the plain reader's 3 comes first. Done, the FCS is counted and
@@ -56,6 +59,16 @@ pub read-sheet : (readInto (0 ∷ 0 ∷ []) (7 ∷ 7 ∷ []) ≡ refusal 14 16 (
     × (readInto (0x02 ∷ 0x00 ∷ 0x6A ∷ 0xE4 ∷ 0x79 ∷ []) (7 ∷ 7 ∷ 7 ∷ 7 ∷ 7 ∷ 9 ∷ [])
     ≡ outcome (record { number = 0; place = 22; n = 5; count = 0 }) (0x02 ∷ 0x00 ∷ 0x6A ∷ 0xE4 ∷ 0x79 ∷ 9 ∷ []))
 unfolding distance bad lowbandWord lowbandWords turnedWords turns turned oddInverted within first valued symbolOf digits raws
-    encode symbols chipsOf frame decode valueOf octetsFrom windows rules repaired concluded taking readingFrom reading told left answerAt checkOf
+    encode symbolsWith chipsOf frameWith decode valueOf octetsFrom windows rules repaired concluded taking readingFrom reading told left answerAt checkOf
     checkedAnswer allZero fcsOf registerAfter entered bits
 read-sheet = (refl, refl, refl, refl, refl)
+
+-- With the reserved bit set the acknowledgement is read all the same, and into too short a buffer it
+-- is 3.
+pub reserved-sheet : (readWith 1 (0x02 ∷ 0x00 ∷ 0x6A ∷ 0xE4 ∷ 0x79 ∷ []) (7 ∷ 7 ∷ 7 ∷ 7 ∷ 7 ∷ 9 ∷ [])
+    ≡ outcome (record { number = 0; place = 22; n = 5; count = 0 }) (0x02 ∷ 0x00 ∷ 0x6A ∷ 0xE4 ∷ 0x79 ∷ 9 ∷ []))
+    × (readWith 1 (0x02 ∷ 0x00 ∷ 0x6A ∷ 0xE4 ∷ 0x79 ∷ []) (7 ∷ 7 ∷ 7 ∷ 7 ∷ []) ≡ refusal 3 11 (7 ∷ 7 ∷ 7 ∷ 7 ∷ []))
+unfolding distance bad lowbandWord lowbandWords turnedWords turns turned oddInverted within first valued symbolOf digits raws
+    encode symbolsWith chipsOf frameWith decode valueOf octetsFrom windows rules repaired concluded taking readingFrom reading told left answerAt checkOf
+    checkedAnswer allZero fcsOf registerAfter entered bits
+reserved-sheet = (refl, refl)

@@ -7,16 +7,16 @@ use mathlib.Core.List.{List, [], _∷_, map}
 use Prim.Native.Nat.{ℕ, zero, suc, _/_, _%_, _^_}
 use lib.ListN.{take, drop}
 use lib.Dec.{ltb}
-use Rattle.codes.specs.Numbers.{DONE, BADMODE, TOOLONG, NOROOM, RUNOUT, NOCHIP, LOST, PREAMBLE, BADSTART, RESERVED}
+use Rattle.codes.specs.Numbers.{DONE, BADMODE, TOOLONG, NOROOM, RUNOUT, NOCHIP, LOST, PREAMBLE, BADSTART}
 use Rattle.codes.specs.Numbers.{ENDED, BADPART, NOTENDED, MORE, TOOFEW, BADCHECK, ALLZERO, FORGED}
 use Rattle.codes.specs.Radio.{known, radioOf, bpsk, oqpsk, lowband}
 use Rattle.codes.specs.Radio.{bpskWords, oqpskWord, oqpskWords, lowbandWord, lowbandWords, turned, turns, oddInverted, turnedWords}
 
--- the numbers given back, in the order of the scope's table
+-- the numbers given back, in the order of the scope's table: 9 is none of them
 pub numbers-listed :
-    (DONE ∷ BADMODE ∷ TOOLONG ∷ NOROOM ∷ RUNOUT ∷ NOCHIP ∷ LOST ∷ PREAMBLE ∷ BADSTART ∷ RESERVED
+    (DONE ∷ BADMODE ∷ TOOLONG ∷ NOROOM ∷ RUNOUT ∷ NOCHIP ∷ LOST ∷ PREAMBLE ∷ BADSTART
     ∷ ENDED ∷ BADPART ∷ NOTENDED ∷ MORE ∷ TOOFEW ∷ BADCHECK ∷ ALLZERO ∷ FORGED ∷ [])
-    ≡ (0 ∷ 1 ∷ 2 ∷ 3 ∷ 4 ∷ 5 ∷ 6 ∷ 7 ∷ 8 ∷ 9 ∷ 10 ∷ 11 ∷ 12 ∷ 13 ∷ 14 ∷ 15 ∷ 16 ∷ 34 ∷ [])
+    ≡ (0 ∷ 1 ∷ 2 ∷ 3 ∷ 4 ∷ 5 ∷ 6 ∷ 7 ∷ 8 ∷ 10 ∷ 11 ∷ 12 ∷ 13 ∷ 14 ∷ 15 ∷ 16 ∷ 34 ∷ [])
 numbers-listed = refl
 
 -- the modes: each number's radio, and no number above 2 has one

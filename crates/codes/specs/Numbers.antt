@@ -38,9 +38,7 @@ PREAMBLE = 7
 abbrev pub BADSTART : ℕ
 BADSTART = 8
 
--- reserved bit set
-abbrev pub RESERVED : ℕ
-RESERVED = 9
+-- (9 is withdrawn, and its number not used again.)
 
 -- receiver already ended
 abbrev pub ENDED : ℕ

@@ -30,7 +30,7 @@ pub const PREAMBLE: u32 = 7;
 
 pub const BADSTART: u32 = 8;
 
-pub const RESERVED: u32 = 9;
+// 9 is withdrawn, and its number not used again.
 
 pub const ENDED: u32 = 10;
 

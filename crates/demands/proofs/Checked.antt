@@ -2,7 +2,7 @@
 -- the plain one does, but for a report that doesn't pass, which it refuses with the number of its
 -- first test, at the frame's number of symbols and with nothing stored. So it is done exactly when
 -- the plain reader is, with a report that passes; what it stores is never nothing but zeros; and
--- what the checked writer wrote it reads, FCS included. A refusal of either leaves every byte. And
+-- what the checked writer wrote it reads, FCS included, with the reserved bit set too. A refusal of either leaves every byte. And
 -- the tests asked of what take gave answer the checked reader's number. Assumes nothing.
 use mathlib.Core.Path.{_≡_, refl, sym, ap, _∙_}
 use mathlib.Core.Logic.{_↔_}
@@ -14,7 +14,7 @@ use lib.Dec.{eqb, ltb}
 use lib.ListN.{length, getD, take, drop, replicate}
 use lib.Seq.{take-at, take-take}
 use borrow.Author.Tests.{eq-eqb, ne-eqb, lt-ltb, le-ltb, eqb-true, eqb-false}
-use Rattle.codes.specs.Numbers.{DONE, BADMODE, TOOLONG, NOROOM, RUNOUT, NOCHIP, LOST, PREAMBLE, BADSTART, RESERVED, TOOFEW, BADCHECK, ALLZERO}
+use Rattle.codes.specs.Numbers.{DONE, BADMODE, TOOLONG, NOROOM, RUNOUT, NOCHIP, LOST, PREAMBLE, BADSTART, TOOFEW, BADCHECK, ALLZERO}
 use Rattle.codes.specs.Chips.{among}
 use Rattle.codes.specs.Radio.{known, radioOf}
 use Rattle.codes.proofs.Tests.{by-pick, by-test}
@@ -35,11 +35,11 @@ use Rattle.checked.specs.Profile.{allZero, body, checkOf, checkedAnswer, readCh
 use Rattle.checked.proofs.Tests.{short-check}
 use Rattle.checked.proofs.Passing.{check-wrong, check-zeros, passes-check, check-passes, check-numbers}
 use Rattle.checked.proofs.Passing.{zeros-are, are-zeros, not-zeros, body-not-zeros, with-body}
-use Rattle.demands.specs.Words.{Report, success}
+use Rattle.demands.specs.Words.{Report, frames, OneOf, success}
 use Rattle.demands.specs.Calls.{Call, after, counted, inOrder, tells}
 use Rattle.demands.specs.Profile.{Passes}
 use Rattle.demands.proofs.Demand1.{leaves, read-bad-mode, read-numbers, write-refused, write-numbers}
-use Rattle.demands.proofs.Demand2.{read-back}
+use Rattle.demands.proofs.Demand2.{reads-frames, read-back}
 use Rattle.demands.proofs.Demand3.{answer-room}
 use Rattle.demands.proofs.Path.{same-parts}
 use Rattle.demands.proofs.Given.{among-pass}
@@ -243,15 +243,15 @@ checked-read-refused mode chips buffer = leaves (checkedAnswer (answerAt mode (l
 -- The reader gives back one of these numbers.
 pub checked-read-numbers : (mode : ℕ) (chips buffer : List ℕ)
     → among (readCheckedOf mode chips buffer .answer .number)
-    (DONE ∷ BADMODE ∷ NOROOM ∷ RUNOUT ∷ NOCHIP ∷ LOST ∷ PREAMBLE ∷ BADSTART ∷ RESERVED ∷ TOOFEW ∷ BADCHECK ∷ ALLZERO ∷ []) ≡ true
+    (DONE ∷ BADMODE ∷ NOROOM ∷ RUNOUT ∷ NOCHIP ∷ LOST ∷ PREAMBLE ∷ BADSTART ∷ TOOFEW ∷ BADCHECK ∷ ALLZERO ∷ []) ≡ true
 unfolding told checkedAnswer
 checked-read-numbers mode chips buffer = go (answerAt mode (length buffer) chips) (read-numbers mode chips buffer)
   where
     numbers : List ℕ
-    numbers = DONE ∷ BADMODE ∷ NOROOM ∷ RUNOUT ∷ NOCHIP ∷ LOST ∷ PREAMBLE ∷ BADSTART ∷ RESERVED ∷ TOOFEW ∷ BADCHECK ∷ ALLZERO ∷ []
+    numbers = DONE ∷ BADMODE ∷ NOROOM ∷ RUNOUT ∷ NOCHIP ∷ LOST ∷ PREAMBLE ∷ BADSTART ∷ TOOFEW ∷ BADCHECK ∷ ALLZERO ∷ []
 
     plain : List ℕ
-    plain = DONE ∷ BADMODE ∷ NOROOM ∷ RUNOUT ∷ NOCHIP ∷ LOST ∷ PREAMBLE ∷ BADSTART ∷ RESERVED ∷ []
+    plain = DONE ∷ BADMODE ∷ NOROOM ∷ RUNOUT ∷ NOCHIP ∷ LOST ∷ PREAMBLE ∷ BADSTART ∷ []
 
     go : (a : Answer) → among (told a .number) plain ≡ true → among (told (checkedAnswer a) .number) numbers ≡ true
     go (refused x place) f = among-pass (λ y. among y numbers) plain refl x f
@@ -283,6 +283,13 @@ module _ (mode : ℕ) (k : known mode ≡ true) (report : List ℕ) (octets : Be
         ends = ap withFcs (sym (with-body report));
         some = λ e. some (zeros-front report (fcsOctets report) e);
       }
+
+  -- Each frame of it with its FCS, followed by anything, is read.
+  pub checked-reads-frames : (frame more buffer : List ℕ) → OneOf (frames (radioOf mode) (withFcs report)) frame → length report + 2 ≤ length buffer
+      → readCheckedOf mode (frame ++ more) buffer ≡ success mode buffer (withFcs report) 0
+  checked-reads-frames frame more buffer m l =
+      checked-done mode (frame ++ more) buffer (withFcs report) 0 .1
+      (reads-frames mode k (withFcs report) frame more buffer (with-report report octets short) m (omega (arith, with-long report)), with-passes)
 
   pub checked-read-back : (chips buffer : List ℕ) → length (frame (radioOf mode) (withFcs report)) ≤ length chips → length report + 2 ≤ length buffer
       → readCheckedOf mode (writtenChecked mode report chips .buffer) buffer ≡ success mode buffer (withFcs report) 0

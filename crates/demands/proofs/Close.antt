@@ -1,5 +1,5 @@
--- Chips whose windows begin with the symbols of a report's frame are those that begin with its
--- frame, but for the limit in each symbol. For any sound radio. Assumes nothing.
+-- Chips whose windows begin with the symbols of one of a report's frames are those that begin with
+-- that frame, but for the limit in each symbol. For any sound radio. Assumes nothing.
 use mathlib.Core.Path.{_≡_, refl, sym, ap, _∙_}
 use mathlib.Core.List.{List, [], _∷_}
 use Prim.Native.Nat.{ℕ, zero, suc, _+_, _*_, _≤_, _<_}
@@ -12,7 +12,7 @@ use Rattle.codes.specs.Radio.{Radio, Sound, word}
 use Rattle.codes.specs.Symbol.{reads, symbolOf}
 use Rattle.codes.specs.declared.Symbol.{Symbol}
 use Rattle.codes.proofs.Unique.{Reads, of-symbol, symbol-of}
-use Rattle.frame.specs.Frame.{symbols, frame}
+use Rattle.frame.specs.Frame.{symbolsWith, frameWith}
 use Rattle.reader.specs.Order.{window, whole, repaired}
 use Rattle.demands.specs.Words.{Near, differences}
 use Rattle.reader.proofs.Windows.{whole-long, whole-at, seen, seen-long}
@@ -20,7 +20,7 @@ use Rattle.reader.proofs.Raw.{size-pos}
 use Rattle.reader.proofs.Carried.{repaired-append}
 use Rattle.demands.proofs.Stands.{Stands, seen-at}
 use Rattle.demands.proofs.Fronts.{window-long, front-chips, window-chips}
-use Rattle.demands.proofs.Frames.{symbol-known, frame-window, sum-of-windows}
+use Rattle.demands.proofs.Frames.{symbol-known, window-in, window-of, frame-window, sum-of-windows}
 use Rattle.frame.proofs.Count.{frame-size}
 
 module _ (r : Radio) (chips : List ℕ) where
@@ -44,9 +44,12 @@ module _ (r : Radio) (chips : List ℕ) where
         ap (λ (y : Symbol). y .distance) (seen-at r ws k (symbolOf r []) h),
       )
 
-module _ (r : Radio) (S : Sound r) (chips report : List ℕ) (count : ℕ) where
+module _ (r : Radio) (S : Sound r) (chips : List ℕ) (bit : ℕ) (report : List ℕ) (count : ℕ) where
   abbrev vs : List ℕ
-  vs = symbols r report
+  vs = symbolsWith r bit report
+
+  abbrev f : List ℕ
+  f = frameWith r bit report
 
   whole-fits : length vs ≤ length (whole r chips) → length vs * r .size ≤ length chips
   whole-fits h = le-div-iff-mul-le (size-pos r S) .0 (omega (arith, whole-long r chips))
@@ -62,30 +65,30 @@ module _ (r : Radio) (S : Sound r) (chips report : List ℕ) (count : ℕ) where
     read-at j h = of-symbol r (window r chips j) _ _ (at-window j h)
 
     -- they begin with the frame
-    pub stands-near : Near r chips report count
+    pub stands-near : Near r chips f count
     stands-near =
         record {
-          long = omega (arith, frame-size r S report, whole-fits (T .enough));
-          chip = rw (frame-size r S report) (front-chips r chips (length vs) (λ s h. read-at s h .chip));
-          near = λ s h. rw (frame-window r S report s h) (read-at s h .near);
+          long = omega (arith, frame-size r S bit report, whole-fits (T .enough));
+          chip = rw (frame-size r S bit report) (front-chips r chips (length vs) (λ s h. read-at s h .chip));
+          near = λ s l. let h = window-of r S bit report s l in rw (frame-window r S bit report s h) (read-at s h .near);
           sum = T .total
-              ∙ repaired-sum r chips (frame r report) (length vs) (T .enough)
-              (λ j h. rw (whole-at r chips j (omega (arith, T .enough)), frame-window r S report j h) (ap (λ (x : Symbol). x .distance) (at-window j h)))
-              ∙ sym (sum-of-windows r S chips report (omega (arith, frame-size r S report, whole-fits (T .enough))));
+              ∙ repaired-sum r chips f (length vs) (T .enough)
+              (λ j h. rw (whole-at r chips j (omega (arith, T .enough)), frame-window r S bit report j h) (ap (λ (x : Symbol). x .distance) (at-window j h)))
+              ∙ sym (sum-of-windows r S bit report chips (omega (arith, frame-size r S bit report, whole-fits (T .enough))));
         }
 
-  module _ (N : Near r chips report count) where
+  module _ (N : Near r chips f count) where
     fits : length vs * r .size ≤ length chips
-    fits = omega (arith, frame-size r S report, N .long)
+    fits = omega (arith, frame-size r S bit report, N .long)
 
     near-read : (j : ℕ) → j < length vs → symbolOf r (window r chips j) ≡ reads (getD vs j 0) (distance (window r chips j) (word r (getD vs j 0)))
     near-read j h =
         symbol-of r (window r chips j) S (window-long r chips (length vs) j fits h) (getD vs j 0) (distance (window r chips j) (word r (getD vs j 0)))
         (record {
-          chip = window-chips r chips (length vs) (rw (frame-size r S report) at (N .chip)) j h;
-          known = symbol-known r S report j h;
+          chip = window-chips r chips (length vs) (rw (frame-size r S bit report) at (N .chip)) j h;
+          known = symbol-known r S bit report j h;
           apart = refl;
-          near = rw (frame-window r S report j h) at (N .near j h);
+          near = rw (frame-window r S bit report j h) at (N .near j (window-in r S bit report j h));
         })
 
     -- and those that begin with the frame
@@ -96,7 +99,7 @@ module _ (r : Radio) (S : Sound r) (chips report : List ℕ) (count : ℕ) where
           enough = l;
           stands = λ j h. rw (whole-at r chips j (omega arith)) (near-read j h);
           total = N .sum
-              ∙ sum-of-windows r S chips report (N .long)
-              ∙ sym (repaired-sum r chips (frame r report) (length vs) l
-              (λ j h. rw (whole-at r chips j (omega arith), frame-window r S report j h) (ap (λ (x : Symbol). x .distance) (near-read j h))));
+              ∙ sum-of-windows r S bit report chips (N .long)
+              ∙ sym (repaired-sum r chips f (length vs) l
+              (λ j h. rw (whole-at r chips j (omega arith), frame-window r S bit report j h) (ap (λ (x : Symbol). x .distance) (near-read j h))));
         }

@@ -7,7 +7,7 @@ use mathlib.Core.List.{List, [], _∷_}
 use Prim.Native.Nat.{ℕ}
 use lib.ListN.{length}
 use lib.Dec.{eqb, ltb}
-use Rattle.codes.specs.Numbers.{DONE, BADMODE, TOOLONG, NOROOM, RUNOUT, NOCHIP, LOST, PREAMBLE, BADSTART, RESERVED}
+use Rattle.codes.specs.Numbers.{DONE, BADMODE, TOOLONG, NOROOM, RUNOUT, NOCHIP, LOST, PREAMBLE, BADSTART}
 use Rattle.codes.specs.Radio.{known, radioOf}
 use Rattle.codes.specs.Chips.{among}
 use Rattle.frame.specs.declared.Written.{Written}
@@ -40,19 +40,19 @@ among-more x y ns f = by-pick (λ t. t ≡ true) (eqb x y) true (among x ns) (λ
 
 -- The reader gives back one of these numbers.
 pub read-numbers : (mode : ℕ) (chips buffer : List ℕ)
-    → among (readOf mode chips buffer .answer .number) (DONE ∷ BADMODE ∷ NOROOM ∷ RUNOUT ∷ NOCHIP ∷ LOST ∷ PREAMBLE ∷ BADSTART ∷ RESERVED ∷ []) ≡ true
+    → among (readOf mode chips buffer .answer .number) (DONE ∷ BADMODE ∷ NOROOM ∷ RUNOUT ∷ NOCHIP ∷ LOST ∷ PREAMBLE ∷ BADSTART ∷ []) ≡ true
 unfolding answerAt told
 read-numbers mode chips buffer = by-pick P (known mode) _ _ (λ _. go (reading (radioOf mode) (length buffer) chips) (answer-fair _ _ _)) (λ _. refl)
   where
     P : Answer → Type 0
-    P a = among (told a .number) (DONE ∷ BADMODE ∷ NOROOM ∷ RUNOUT ∷ NOCHIP ∷ LOST ∷ PREAMBLE ∷ BADSTART ∷ RESERVED ∷ []) ≡ true
+    P a = among (told a .number) (DONE ∷ BADMODE ∷ NOROOM ∷ RUNOUT ∷ NOCHIP ∷ LOST ∷ PREAMBLE ∷ BADSTART ∷ []) ≡ true
 
     go : (a : Answer) → Fair a → P a
     go (refused x place) f = among-more x DONE (BADMODE ∷ refusals) (among-more x BADMODE refusals f)
     go (done place report count) f = refl
 
 -- And each stands where the reading order lets it: 7 in the preamble, 8 on the last symbol of the
--- start octet, 9 and 3 on that of the length octet.
+-- start octet, 3 on that of the length octet.
 pub read-places : (mode : ℕ) (chips buffer : List ℕ)
     → Placed (perOctet (radioOf mode)) (readOf mode chips buffer .answer .number) (readOf mode chips buffer .answer .place)
 unfolding answerAt told

@@ -1,22 +1,24 @@
 -- Demand 3. With room, the reading answers a report and a count exactly when the buffer begins
--- with 0/1 chips that differ from that report's frame in at most the limit of places of each
--- symbol, and the count is the distance of the whole prefix from the whole frame. For every sound
--- radio, both directions; that it is a report (at most 127 numbers below 256) is concluded in one
--- and supposed in the other. Besides: the count is the sum of the differences in the symbols'
+-- with 0/1 chips that differ from one of that report's frames in at most the limit of places of
+-- each symbol, and the count is the distance of the whole prefix from that whole frame. For every
+-- sound radio, both directions; that it is a report (at most 127 numbers below 256) is concluded in
+-- one and supposed in the other. That frame is the one which the length octet's symbols read as,
+-- and the chips are near no other. Besides: the count is the sum of the differences in the symbols'
 -- windows, the place of an answer is the number of the frame's symbols, and an answered report has
 -- room. Assumes nothing.
-use mathlib.Core.Path.{_≡_, _∙_}
+use mathlib.Core.Path.{_≡_, sym, ap, _∙_, subst}
 use mathlib.Core.Logic.{_↔_}
 use mathlib.Core.List.{List}
 use Prim.Native.Nat.{ℕ, _≤_}
 use lib.ListN.{length}
 use Rattle.codes.specs.Radio.{Radio, Sound}
-use Rattle.frame.specs.Frame.{symbols, frame}
+use Rattle.frame.specs.Frame.{symbols, frameWith}
+use Rattle.frame.proofs.Count.{symbols-same}
 use Rattle.reader.specs.Order.{done, whole, reading}
-use Rattle.demands.specs.Words.{Report, Answers, Near, differences}
-use Rattle.demands.proofs.Frames.{sum-of-windows}
-use Rattle.demands.proofs.Ended.{reading-heard}
-use Rattle.demands.proofs.Answered.{windows-answer}
+use Rattle.demands.specs.Words.{Report, frames, OneOf, frameRead, Answers, Near, NearOne, differences}
+use Rattle.demands.proofs.Frames.{sum-of-windows, one-of, Bit, bit-of}
+use Rattle.demands.proofs.Ended.{bitIn, reading-heard}
+use Rattle.demands.proofs.Answered.{bit-read, windows-answer}
 use Rattle.demands.proofs.Close.{stands-near, near-stands}
 
 module _ (r : Radio) (S : Sound r) (room : ℕ) (chips report : List ℕ) (count : ℕ) where
@@ -28,14 +30,39 @@ module _ (r : Radio) (S : Sound r) (room : ℕ) (chips report : List ℕ) (count
   unfolding reading
   answer-room a = reading-heard r S room (whole r chips) _ count report a .fits
 
-  pub demand-3 : length report ≤ room → Answers r room chips report count ↔ (Report report × Near r chips report count)
+  -- The chips are near that one of the report's frames which they read as.
+  pub answer-frame : Answers r room chips report count → OneOf (frames r report) (frameRead r chips report) × Near r chips (frameRead r chips report) count
+  unfolding reading
+  answer-frame a =
+      let H = reading-heard r S room (whole r chips) (length (symbols r report)) count report a in
+      (one-of r report (bitIn r (whole r chips)) (H .low), stands-near r S chips (bitIn r (whole r chips)) report count (H .row))
+
+  pub demand-3 : length report ≤ room → Answers r room chips report count ↔ (Report report × NearOne r chips report count)
   unfolding reading
   demand-3 h = (
-    λ a. let H = reading-heard r S room (whole r chips) (length (symbols r report)) count report a in
-        (H .proper, stands-near r S chips report count (H .row)),
-    λ n. windows-answer r S room (whole r chips) report (n .0) h count (near-stands r S chips report count (n .1)),
+    λ a. let n = answer-frame a in (
+      reading-heard r S room (whole r chips) _ count report a .proper,
+      record { frame = frameRead r chips report; member = n .0; near = n .1 },
+    ),
+    λ n. go (n .0) (n .1) (bit-of r report (n .1 .frame) (n .1 .member)),
   )
+    where
+      go : Report report → (N : NearOne r chips report count) → Bit r report (N .frame) → Answers r room chips report count
+      go p N (bit, low, e) = windows-answer r S (whole r chips) bit low report p count (near-stands r S chips bit report count (subst (λ (f : List ℕ). Near r chips f count) e (N .near))) room h
 
   -- the count of an answer is the sum over the symbols' windows
-  pub count-of-windows : Answers r room chips report count → count ≡ differences r chips (frame r report) (length (symbols r report))
-  count-of-windows a = let n = demand-3 (answer-room a) .0 a .1 in n .sum ∙ sum-of-windows r S chips report (n .long)
+  pub count-of-windows : Answers r room chips report count → count ≡ differences r chips (frameRead r chips report) (length (symbols r report))
+  count-of-windows a =
+      let n = answer-frame a .1 in
+      let bit = bitIn r (whole r chips) in
+      n .sum ∙ sum-of-windows r S bit report chips (n .long) ∙ ap (differences r chips (frameRead r chips report)) (symbols-same r bit report)
+
+-- A frame of a report that chips are near is the one that they read as.
+pub near-read : (r : Radio) → Sound r → (chips report frame : List ℕ) (count : ℕ) → Report report → OneOf (frames r report) frame → Near r chips frame count
+    → frame ≡ frameRead r chips report
+near-read r S chips report frame count p m n = go (bit-of r report frame m)
+  where
+    go : Bit r report frame → frame ≡ frameRead r chips report
+    go (bit, low, e) =
+        e ∙ ap (λ (b : ℕ). frameWith r b report)
+        (sym (bit-read r S (whole r chips) bit low report p count (near-stands r S chips bit report count (subst (λ (f : List ℕ). Near r chips f count) e n))))

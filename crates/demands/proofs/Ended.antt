@@ -1,10 +1,10 @@
--- A reading that is done: the windows begin with the symbols of a report's frame, it is that report
--- that is answered, and it has room. For any sound radio. Assumes nothing.
+-- A reading that is done: the windows begin with the symbols of one of a report's frames, the one
+-- with the reserved bit that they have; it is that report that is answered, and it has room. For any sound radio. Assumes nothing.
 use mathlib.Core.Path.{_≡_, refl, sym, ap, _∙_}
 use mathlib.Core.Logic.{_⊎_, inl, inr, ⊎-elim}
 use mathlib.Core.List.{List, []}
-use Prim.Native.Nat.{ℕ, suc, _+_, _*_, _^_, _≤_, _<_}
-use native.Mathlib.Nat.{eq-or-lt-of-le, zero-add}
+use Prim.Native.Nat.{ℕ, suc, _+_, _*_, _/_, _^_, _≤_, _<_}
+use native.Mathlib.Nat.{eq-or-lt-of-le, zero-add, add-mul}
 use native.Mathlib.Omega.{arith}
 use lib.ListN.{length, getD, take}
 use lib.Seq.{getD-take}
@@ -13,25 +13,31 @@ use Rattle.codes.specs.Radio.{Radio, Sound}
 use Rattle.codes.specs.Symbol.{symbolOf}
 use Rattle.codes.proofs.Tests.{upto}
 use Rattle.codes.proofs.Unique.{Reads, of-symbol}
-use Rattle.frame.specs.Frame.{perOctet, encode, symbols}
+use Rattle.frame.specs.Frame.{octetsWith, perOctet, raws, encode, symbols, symbolsWith}
+use Rattle.frame.proofs.Count.{symbols-same}
 use Rattle.frame.proofs.Below.{Below, at-below}
-use Rattle.reader.specs.Received.{decode, octetAt}
-use Rattle.reader.specs.Order.{done, values, repaired, verdict, reportIn, readingFrom}
+use Rattle.reader.specs.Received.{decode, received, octetAt}
+use Rattle.reader.specs.Order.{done, values, repaired, lengthIn, verdict, reportIn, readingFrom}
 use Rattle.demands.specs.Words.{Report}
 use Rattle.demands.proofs.Back.{decode-take, encode-decode}
 use Rattle.reader.proofs.Raw.{decode-long, decode-below}
 use Rattle.reader.proofs.Rules.{Clear, rules-clear, rules-last}
 use Rattle.demands.proofs.Path.{rawsTo, Run, ending, same-parts, reading-run}
 use Rattle.reader.proofs.Windows.{seen}
-use Rattle.demands.proofs.Found.{found-room, found-report, found-raws}
-use Rattle.demands.proofs.Stands.{Stands, values-long, values-at, values-take}
+use Rattle.demands.proofs.Found.{found-room, found-bit, found-report, found-raws}
+use Rattle.demands.proofs.Stands.{Stands, values-long, values-at, values-take, octet-front}
+
+-- the reserved bit that the windows' symbols have
+abbrev pub bitIn : Radio → List (List ℕ) → ℕ
+bitIn r ws = octetAt r 5 (received r (values (seen r ws))) / 128
 
 -- what a reading of windows that is done says
 pub record Heard (r : Radio) (room : ℕ) (ws : List (List ℕ)) (place : ℕ) (report : List ℕ) (count : ℕ) : Type 0 where
   pub proper : Report report
   pub fits : length report ≤ room
   pub at : place ≡ length (symbols r report)
-  pub row : Stands r ws (symbols r report) count
+  pub low : bitIn r ws ≤ 1
+  pub row : Stands r ws (symbolsWith r (bitIn r ws) report) count
 
 module _ (r : Radio) (S : Sound r) (room : ℕ) (ws : List (List ℕ)) where
   module _ (k : ℕ) (R : Run r room ws 0 k) where
@@ -64,18 +70,24 @@ module _ (r : Radio) (S : Sound r) (room : ℕ) (ws : List (List ℕ)) where
         rw (← prefix j h)
         (⊎-elim (λ (e : j ≡ k). inr (rw e (R .last))) (λ (l : j < k). inl (R .more j (omega arith) l)) (eq-or-lt-of-le (upto j k h)))
 
-    clear : (j : ℕ) → j < length bs → Clear (perOctet r) room j (getD bs j 0) (octetAt r 4 (take (suc j) bs)) (octetAt r 5 (take (suc j) bs))
+    clear : (j : ℕ) → j < length bs → Clear (perOctet r) room j (getD bs j 0) (octetAt r 4 (take (suc j) bs)) (lengthIn r (take (suc j) bs))
     clear j h =
         rw (← getD-take (suc j) bs j 0 (omega arith))
         (rules-clear (perOctet r) room j _ _ _ (verdict r room j (take (suc j) bs)) (number-at j (omega (arith, decode-long r 0 vs, long))) refl)
 
-    whole-long : length bs ≡ (6 + octetAt r 5 bs) * perOctet r
-    whole-long = decode-long r 0 vs ∙ long ∙ rules-last (perOctet r) room k (getD bs k 0) (octetAt r 4 bs) (octetAt r 5 bs) (R .last)
+    whole-long : length bs ≡ (6 + lengthIn r bs) * perOctet r
+    whole-long = decode-long r 0 vs ∙ long ∙ rules-last (perOctet r) room k (getD bs k 0) (octetAt r 4 bs) (lengthIn r bs) (R .last)
 
-    same : symbols r (reportIn r bs) ≡ vs
-    unfolding symbols
+    bit-is : bitIn r ws ≡ octetAt r 5 bs / 128
+    bit-is =
+        ap (λ (x : ℕ). x / 128)
+        (sym (octet-front r ws 5 (suc k) (omega (arith, decode-long r 0 vs, long, whole-long, add-mul 6 (lengthIn r bs) (perOctet r)))))
+
+    same : symbolsWith r (bitIn r ws) (reportIn r bs) ≡ vs
+    unfolding symbolsWith
     same =
-        ap (encode r 0) (found-raws r S room bs (decode-below r S 0 vs vs-below) clear whole-long) ∙ encode-decode r S 0 vs vs-below
+        ap (λ (bit : ℕ). encode r 0 (raws r (octetsWith bit (reportIn r bs)))) bit-is
+        ∙ ap (encode r 0) (found-raws r S room bs (decode-below r S 0 vs vs-below) clear whole-long) ∙ encode-decode r S 0 vs vs-below
 
     row-of : Stands r ws vs (repaired (take (suc k) (seen r ws)))
     row-of =
@@ -95,7 +107,8 @@ module _ (r : Radio) (S : Sound r) (room : ℕ) (ws : List (List ℕ)) where
         record {
           proper = found-report r S room bs (decode-below r S 0 vs vs-below) clear whole-long;
           fits = found-room r S room bs (decode-below r S 0 vs vs-below) clear whole-long;
-          at = sym (ap length same ∙ long);
+          at = sym (sym (symbols-same r (bitIn r ws) (reportIn r bs)) ∙ ap length same ∙ long);
+          low = rw bit-is (found-bit r S room bs (decode-below r S 0 vs vs-below) clear whole-long);
           row = rw same row-of;
         }
 

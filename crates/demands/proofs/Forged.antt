@@ -27,7 +27,7 @@ use Rattle.receiver.proofs.Ways.{push-forged, push-ended, finish-forged, finish
 use Rattle.demands.specs.Calls.{Call, pushing, finishing, taking, called, after, tells, Idle}
 use Rattle.demands.specs.Calls.{Faulty, no-radio, too-long, too-many-repaired, misfits, FaultyOpen, FaultyWell}
 use Rattle.demands.proofs.Given.{among-pass, ofSymbol, push-ways, took-given, finish-ways, takes-ways}
-use Rattle.demands.proofs.Made.{Honest, wanting, complete, ended, not-ending, passes, made}
+use Rattle.demands.proofs.Made.{holds-no, passes, made}
 
 -- ---- 34 is the number of a forged record, whatever is called
 
@@ -56,7 +56,7 @@ called-passed c f n (taking buffer) =
 module _ (c : Receiver) (g : (c .ended ≡ MORE) ⊎ (c .ended ≡ DONE)) (misfit : ℕ → Type 0) where
   -- the symbols of the frame of a report of the length held
   frame-total : (report : List ℕ) → length report ≡ c .length → length (symbols (radioOf (c .mode)) report) ≡ total c
-  frame-total report l = symbols-long (radioOf (c .mode)) report ∙ ap (λ (n : ℕ). (6 + n) * perOctet (radioOf (c .mode))) l
+  frame-total report l = symbols-long (radioOf (c .mode)) 0 report ∙ ap (λ (n : ℕ). (6 + n) * perOctet (radioOf (c .mode))) l
 
   -- where the other tests pass, the test of the number of symbols decides
   module _ (decides : forged c ≡ number-of-symbols c (perOctet (radioOf (c .mode))) → (forged c ≡ true) ↔ misfit (total c)) where
@@ -173,15 +173,9 @@ module _ (c : Receiver) where
 
 -- ---- records that calls make
 
--- the number that such a record holds is not 34
-holds-none : (c : Receiver) → Honest c → c .ended ≡ FORGED → ⊥
-holds-none c (wanting k before C O) e = omega (arith, O .number, e)
-holds-none c (complete k d F) e = omega (arith, d, e)
-holds-none c (ended t) e = not-ending (c .ended) FORGED t refl e
-
 -- Whatever was called before, no call on a record that start gave is answered 34.
 pub never-forged : (mode : ℕ) (xs : List Call) (x : Call) → called (after (startOf mode .receiver) xs) x .number ≡ FORGED → ⊥
 never-forged mode xs =
     let c = after (startOf mode .receiver) xs in
     let h = made mode xs .honest in
-    called-passed c (passes c h) (holds-none c h)
+    called-passed c (passes c h) (holds-no FORGED refl refl refl c h)

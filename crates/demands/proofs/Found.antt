@@ -1,18 +1,18 @@
--- Raw symbols at which nothing is wrong, as many as the length octet says, are those of a report's
--- frame: of the report in them. For any sound radio. Assumes nothing.
+-- Raw symbols at which nothing is wrong, as many as the length octet says, are those of a frame of
+-- the report in them: the one with the reserved bit that they have. For any sound radio. Assumes nothing.
 use mathlib.Core.Path.{_≡_, sym, _∙_}
 use mathlib.Core.List.{List}
-use Prim.Native.Nat.{ℕ, suc, _+_, _-_, _*_, _^_, _≤_, _<_}
+use Prim.Native.Nat.{ℕ, suc, _+_, _-_, _*_, _/_, _^_, _≤_, _<_}
 use native.Mathlib.Nat.{suc-mul, add-mul, mul-le-mul-right}
 use native.Mathlib.Omega.{arith}
 use lib.ListN.{length, getD, take, drop, length-take}
 use lib.Seq.{getD-take, getD-drop}
 use Rattle.codes.specs.Radio.{Radio, Sound}
 use Rattle.codes.proofs.Rows.{row-in}
-use Rattle.frame.specs.Frame.{startOctet, octets, perOctet, raws}
+use Rattle.frame.specs.Frame.{startOctet, octetsWith, perOctet, raws}
 use Rattle.frame.proofs.Below.{Below, at-below, below-at}
 use Rattle.reader.specs.Received.{octetAt, octetsFrom}
-use Rattle.reader.specs.Order.{reportIn}
+use Rattle.reader.specs.Order.{lengthIn, reportIn}
 use Rattle.demands.specs.Words.{Report}
 use Rattle.demands.proofs.Digits.{value-nought}
 use Rattle.demands.proofs.Octet.{raws-octets, octets-below, octet-take}
@@ -20,10 +20,13 @@ use Rattle.reader.proofs.Raw.{octets-long, per-positive}
 use Rattle.reader.proofs.Rules.{Clear}
 
 module _ (r : Radio) (S : Sound r) (room : ℕ) (bs : List ℕ) (p : Below (2 ^ r .bits) bs)
-    (clear : (s : ℕ) → s < length bs → Clear (perOctet r) room s (getD bs s 0) (octetAt r 4 (take (suc s) bs)) (octetAt r 5 (take (suc s) bs)))
-    (long : length bs ≡ (6 + octetAt r 5 bs) * perOctet r) where
+    (clear : (s : ℕ) → s < length bs → Clear (perOctet r) room s (getD bs s 0) (octetAt r 4 (take (suc s) bs)) (lengthIn r (take (suc s) bs)))
+    (long : length bs ≡ (6 + lengthIn r bs) * perOctet r) where
   abbrev n : ℕ
-  n = octetAt r 5 bs
+  n = lengthIn r bs
+
+  abbrev bit : ℕ
+  bit = octetAt r 5 bs / 128
 
   enough : 6 * perOctet r ≤ length bs
   enough = omega (arith, long, add-mul 6 n (perOctet r))
@@ -57,19 +60,26 @@ module _ (r : Radio) (S : Sound r) (room : ℕ) (bs : List ℕ) (p : Below (2 ^ 
       go : (s : ℕ) × (suc s ≡ 5 * perOctet r) × (s < length bs) → octetAt r 4 bs ≡ startOctet
       go (s, e, h) = sym (octet-take r 4 (suc s) bs (omega arith)) ∙ clear s h .started e
 
-  short : (n ≤ 127) × (n ≤ room)
-  short = go (last-of 5 (omega arith))
+  -- n has room
+  roomy : n ≤ room
+  roomy = go (last-of 5 (omega arith))
     where
-      go : (s : ℕ) × (suc s ≡ 6 * perOctet r) × (s < length bs) → (n ≤ 127) × (n ≤ room)
-      go (s, e, h) =
-          let o = octet-take r 5 (suc s) bs (omega arith) in
-          (omega (arith, o, clear s h .reserved e), omega (arith, o, clear s h .fits e))
+      go : (s : ℕ) × (suc s ≡ 6 * perOctet r) × (s < length bs) → n ≤ room
+      go (s, e, h) = omega (arith, octet-take r 5 (suc s) bs (omega arith), clear s h .fits e)
+
+  -- the length octet is n and the reserved bit
+  length-octet : octetAt r 5 bs ≡ n + 128 * bit
+  length-octet = omega arith
+
+  pub found-bit : bit ≤ 1
+  unfolding octetsFrom
+  found-bit = omega (arith, octets-below r S 5 1 bs p .0)
 
   report-long : length (reportIn r bs) ≡ n
   report-long = octets-long r 6 n bs
 
   -- the octets of the frame
-  frame-octets : octets (reportIn r bs) ≡ octetsFrom r 0 (6 + n) bs
+  frame-octets : octetsWith bit (reportIn r bs) ≡ octetsFrom r 0 (6 + n) bs
   unfolding octetsFrom
   frame-octets =
       let e : 6 + n ≡ suc (suc (suc (suc (suc (suc n))))) = omega arith in
@@ -81,17 +91,18 @@ module _ (r : Radio) (S : Sound r) (room : ℕ) (bs : List ℕ) (p : Below (2 ^ 
         preamble-octet 3 (omega arith),
         start-octet,
         report-long,
+        ← length-octet,
       )
 
   -- it has room
   pub found-room : length (reportIn r bs) ≤ room
-  found-room = omega (arith, report-long, short .1)
+  found-room = omega (arith, report-long, roomy)
 
   -- it is a report
   pub found-report : Report (reportIn r bs)
   found-report =
-      record { short = omega (arith, report-long, short .0); octets = below-at 256 (reportIn r bs) (octets-below r S 6 n bs p) }
+      record { short = omega (arith, report-long); octets = below-at 256 (reportIn r bs) (octets-below r S 6 n bs p) }
 
   -- and they are its raw symbols
-  pub found-raws : raws r (octets (reportIn r bs)) ≡ bs
+  pub found-raws : raws r (octetsWith bit (reportIn r bs)) ≡ bs
   found-raws = rw frame-octets (raws-octets r S (6 + n) bs p long)

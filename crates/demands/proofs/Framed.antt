@@ -1,8 +1,8 @@
--- The raw symbols of a report's frame, at each of them what the rules say, and the report that is
+-- The raw symbols of one of a report's frames, at each of them what the rules say, and the report that is
 -- in them. For any sound radio. Assumes nothing.
 use mathlib.Core.Path.{_≡_, refl, sym, ap, _∙_}
 use mathlib.Core.List.{List, [], _∷_, _++_}
-use Prim.Native.Nat.{ℕ, suc, _+_, _*_, _^_, _≤_, _<_}
+use Prim.Native.Nat.{ℕ, suc, _+_, _*_, _/_, _%_, _^_, _≤_, _<_}
 use native.Mathlib.Nat.{add-mul}
 use native.Mathlib.Omega.{arith}
 use lib.ListN.{length, getD, take, drop}
@@ -10,12 +10,12 @@ use lib.Seq.{getD-take}
 use borrow.Author.Tests.{eq-eqb, ne-eqb}
 use Rattle.codes.specs.Numbers.{DONE, MORE}
 use Rattle.codes.specs.Radio.{Radio, Sound}
-use Rattle.frame.specs.Frame.{startOctet, octets, perOctet, rawOf, raws}
+use Rattle.frame.specs.Frame.{startOctet, octetsWith, perOctet, rawOf, raws}
 use Rattle.frame.proofs.Count.{digits-nought, raws-long}
 use Rattle.frame.proofs.Below.{Below, below-append, at-below, below-at}
 use Rattle.frame.proofs.Parts.{before}
 use Rattle.reader.specs.Received.{octetAt, octetsFrom}
-use Rattle.reader.specs.Order.{verdict, reportIn}
+use Rattle.reader.specs.Order.{lengthIn, verdict, reportIn}
 use Rattle.demands.specs.Words.{Report}
 use Rattle.demands.proofs.Octet.{octets-raws, octet-take}
 use Rattle.reader.proofs.Rules.{Clear, clear-rules}
@@ -28,27 +28,35 @@ nought r = z _ (z _ (z _ (z [] tt)))
     z : (bs : List ℕ) → Below 1 bs → Below 1 (rawOf r 0 ++ bs)
     z bs p = below-append 1 (rawOf r 0) bs (digits-nought (perOctet r) (2 ^ r .bits)) p
 
-module _ (r : Radio) (S : Sound r) (report : List ℕ) (R : Report report) where
+module _ (r : Radio) (S : Sound r) (bit : ℕ) (low : bit ≤ 1) (report : List ℕ) (R : Report report) where
   abbrev all : List ℕ
-  all = raws r (octets report)
+  all = raws r (octetsWith bit report)
 
-  octets-below : Below 256 (octets report)
+  octets-below : Below 256 (octetsWith bit report)
   octets-below =
       (omega arith, (omega arith, (omega arith, (omega arith, (omega arith, (omega (arith, R .short), at-below 256 report (R .octets)))))))
 
   -- the octets from the first on
-  pub again : octetsFrom r 0 (length (octets report)) all ≡ octets report
-  again = octets-raws r S (octets report) octets-below
+  pub again : octetsFrom r 0 (length (octetsWith bit report)) all ≡ octetsWith bit report
+  again = octets-raws r S (octetsWith bit report) octets-below
 
   -- octet 4 is the start octet
   start-in : octetAt r 4 all ≡ startOctet
   unfolding octetsFrom
   start-in = ap (λ (xs : List ℕ). getD xs 4 0) again
 
-  -- octet 5 is the length
-  length-in : octetAt r 5 all ≡ length report
+  -- octet 5 is the length octet
+  length-octet-in : octetAt r 5 all ≡ length report + 128 * bit
   unfolding octetsFrom
-  length-in = ap (λ (xs : List ℕ). getD xs 5 0) again
+  length-octet-in = ap (λ (xs : List ℕ). getD xs 5 0) again
+
+  -- of which n is the length
+  length-in : lengthIn r all ≡ length report
+  length-in = omega (arith, length-octet-in, R .short)
+
+  -- and the bit the reserved one
+  pub bit-in : octetAt r 5 all / 128 ≡ bit
+  bit-in = omega (arith, length-octet-in, R .short)
 
   -- the report in a report's raw symbols is that report
   pub report-in : reportIn r all ≡ report
@@ -56,13 +64,13 @@ module _ (r : Radio) (S : Sound r) (report : List ℕ) (R : Report report) where
   report-in = rw length-in (ap (λ (xs : List ℕ). drop 6 xs) again)
 
   all-long : length all ≡ (6 + length report) * perOctet r
-  all-long = raws-long r (octets report) ∙ ap (λ (n : ℕ). n * perOctet r) (omega arith)
+  all-long = raws-long r (octetsWith bit report) ∙ ap (λ (n : ℕ). n * perOctet r) (omega arith)
 
   -- the preamble is 0
   preamble-in : (s : ℕ) → s < 4 * perOctet r → getD all s 0 ≡ 0
   preamble-in s h =
       let e : take (4 * perOctet r) all ≡ raws r (0 ∷ 0 ∷ 0 ∷ 0 ∷ []) =
-      before r (0 ∷ 0 ∷ 0 ∷ 0 ∷ []) (startOctet ∷ length report ∷ report) (4 * perOctet r) refl in
+      before r (0 ∷ 0 ∷ 0 ∷ 0 ∷ []) (startOctet ∷ (length report + 128 * bit) ∷ report) (4 * perOctet r) refl in
       let g : getD all s 0 ≡ getD (raws r (0 ∷ 0 ∷ 0 ∷ 0 ∷ [])) s 0 = sym (getD-take (4 * perOctet r) all s 0 h) ∙ ap (λ (xs : List ℕ). getD xs s 0) e in
       omega (arith, g, below-at 1 (raws r (0 ∷ 0 ∷ 0 ∷ 0 ∷ [])) (nought r) s (omega (arith, raws-long r (0 ∷ 0 ∷ 0 ∷ 0 ∷ []))))
 
@@ -70,15 +78,14 @@ module _ (r : Radio) (S : Sound r) (report : List ℕ) (R : Report report) where
     abbrev upto : List ℕ
     upto = take (suc s) all
 
-    length-upto : 6 * perOctet r ≤ suc s → octetAt r 5 upto ≡ length report
-    length-upto h = octet-take r 5 (suc s) all h ∙ length-in
+    length-upto : 6 * perOctet r ≤ suc s → lengthIn r upto ≡ length report
+    length-upto h = ap (λ (x : ℕ). x % 128) (octet-take r 5 (suc s) all h) ∙ length-in
 
-    clear : Clear (perOctet r) room s (getD upto s 0) (octetAt r 4 upto) (octetAt r 5 upto)
+    clear : Clear (perOctet r) room s (getD upto s 0) (octetAt r 4 upto) (lengthIn r upto)
     clear =
         record {
           preamble = λ h. getD-take (suc s) all s 0 (omega arith) ∙ preamble-in s h;
           started = λ e. octet-take r 4 (suc s) all (omega arith) ∙ start-in;
-          reserved = λ e. omega (arith, length-upto (omega arith), R .short);
           fits = λ e. omega (arith, length-upto (omega arith), fits);
         }
 
@@ -86,11 +93,11 @@ module _ (r : Radio) (S : Sound r) (report : List ℕ) (R : Report report) where
     pub framed-more : suc s < length all → verdict r room s upto ≡ MORE
     framed-more h =
         clear-rules (perOctet r) room s _ _ _ clear
-        ∙ rw (ne-eqb (suc s) ((6 + octetAt r 5 upto) * perOctet r) (λ e. early e))
+        ∙ rw (ne-eqb (suc s) ((6 + lengthIn r upto) * perOctet r) (λ e. early e))
       where
-        early : suc s ≡ (6 + octetAt r 5 upto) * perOctet r → ⊥
+        early : suc s ≡ (6 + lengthIn r upto) * perOctet r → ⊥
         early e =
-            let l : 6 * perOctet r ≤ suc s = omega (arith, add-mul 6 (octetAt r 5 upto) (perOctet r)) in
+            let l : 6 * perOctet r ≤ suc s = omega (arith, add-mul 6 (lengthIn r upto) (perOctet r)) in
             omega (arith, ap (λ (n : ℕ). (6 + n) * perOctet r) (length-upto l), all-long)
 
     -- and the reading is done on it
@@ -98,4 +105,4 @@ module _ (r : Radio) (S : Sound r) (report : List ℕ) (R : Report report) where
     framed-done h =
         let l : 6 * perOctet r ≤ suc s = omega (arith, all-long, add-mul 6 (length report) (perOctet r)) in
         clear-rules (perOctet r) room s _ _ _ clear
-        ∙ rw (eq-eqb (suc s) ((6 + octetAt r 5 upto) * perOctet r) (h ∙ all-long ∙ ap (λ (n : ℕ). (6 + n) * perOctet r) (sym (length-upto l))))
+        ∙ rw (eq-eqb (suc s) ((6 + lengthIn r upto) * perOctet r) (h ∙ all-long ∙ ap (λ (n : ℕ). (6 + n) * perOctet r) (sym (length-upto l))))

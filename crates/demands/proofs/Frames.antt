@@ -1,22 +1,24 @@
--- The windows of a frame: window s is the word of its symbol s, and a frame is of chips 0 and 1.
--- Nearness to a frame depends on no chip after it, and the distance of a whole prefix from it is
--- the sum over the windows. For any sound radio. Assumes nothing.
+-- A report's frames, and the windows of one: window s is the word of its symbol s, and a frame is
+-- of chips 0 and 1. Nearness to a frame depends on no chip after it, and the distance of a whole
+-- prefix from it is the sum over the windows. For any sound radio. Assumes nothing.
 use mathlib.Core.Path.{_≡_, refl, sym, ap, _∙_}
 use mathlib.Core.Bool.{false}
+use mathlib.Core.Logic.{inl, inr, ⊎-elim}
 use mathlib.Core.List.{List, [], _∷_}
-use Prim.Native.Nat.{ℕ, suc, _*_, _^_, _≤_, _<_}
-use native.Mathlib.Nat.{mul-le-mul-right}
+use Prim.Native.Nat.{ℕ, zero, suc, _*_, _^_, _≤_, _<_}
+use native.Mathlib.Nat.{mul-le-mul-right, le-of-mul-le-mul-right}
 use native.Mathlib.Omega.{arith}
 use lib.ListN.{length, getD, take}
 use lib.Seq.{take-all}
 use Rattle.codes.specs.Chips.{distance, bad}
 use Rattle.codes.specs.Radio.{Radio, Sound, word}
 use Rattle.codes.proofs.Chips.{bad-append}
-use Rattle.frame.specs.Frame.{symbols, chipsOf, frame}
-use Rattle.frame.proofs.Count.{symbols-below, frame-size}
+use Rattle.frame.specs.Frame.{symbolsWith, chipsOf, frameWith}
+use Rattle.frame.proofs.Count.{symbols-below, frame-size, frame-long}
 use Rattle.frame.proofs.Below.{Below, below-at}
 use Rattle.reader.specs.Order.{window}
-use Rattle.demands.specs.Words.{Near, differences}
+use Rattle.demands.specs.Words.{frames, OneOf, Near, differences}
+use Rattle.reader.proofs.Raw.{size-pos}
 use Rattle.demands.proofs.Fronts.{window-same, front-distance, word-window}
 
 module _ (r : Radio) (S : Sound r) where
@@ -25,44 +27,81 @@ module _ (r : Radio) (S : Sound r) where
   chips-good [] p = refl
   chips-good (v ∷ vs) p = rw (bad-append, S .chips v (rw (S .many) (p .0))) (chips-good vs (p .1))
 
-  module _ (report : List ℕ) where
+  module _ (bit : ℕ) (report : List ℕ) where
+    abbrev vs : List ℕ
+    vs = symbolsWith r bit report
+
     -- each symbol of a frame has a word
-    pub symbol-known : (s : ℕ) → s < length (symbols r report) → getD (symbols r report) s 0 < length (r .words)
-    symbol-known s h = rw (S .many) (below-at (2 ^ r .bits) (symbols r report) (symbols-below r S report) s h)
+    pub symbol-known : (s : ℕ) → s < length vs → getD vs s 0 < length (r .words)
+    symbol-known s h = rw (S .many) (below-at (2 ^ r .bits) vs (symbols-below r S bit report) s h)
 
     -- the windows of a frame's symbols end in the frame
-    window-in : (s : ℕ) → s < length (symbols r report) → suc s * r .size ≤ length (frame r report)
-    window-in s h = rw (frame-size r S report) (mul-le-mul-right (r .size) h)
+    pub window-in : (s : ℕ) → s < length vs → suc s * r .size ≤ length (frameWith r bit report)
+    window-in s h = rw (frame-size r S bit report) (mul-le-mul-right (r .size) h)
+
+    -- and no others do
+    pub window-of : (s : ℕ) → suc s * r .size ≤ length (frameWith r bit report) → s < length vs
+    window-of s h = le-of-mul-le-mul-right {k = r .size} (rw (frame-size r S bit report) at h) (size-pos r S)
 
     -- window s of a frame is the word of its symbol s
-    pub frame-window : (s : ℕ) → s < length (symbols r report) → window r (frame r report) s ≡ word r (getD (symbols r report) s 0)
-    unfolding frame
-    frame-window s h = word-window r S (symbols r report) (symbols-below r S report) s h
+    pub frame-window : (s : ℕ) → s < length vs → window r (frameWith r bit report) s ≡ word r (getD vs s 0)
+    unfolding frameWith
+    frame-window s h = word-window r S vs (symbols-below r S bit report) s h
 
     -- a frame is of chips 0 and 1
-    pub frame-good : bad (frame r report) ≡ false
-    unfolding frame
-    frame-good = chips-good (symbols r report) (symbols-below r S report)
+    pub frame-good : bad (frameWith r bit report) ≡ false
+    unfolding frameWith
+    frame-good = chips-good vs (symbols-below r S bit report)
 
--- Chips near a report's frame are so by the chips of that frame alone: others that begin with the
--- same are as near.
-pub near-same : (r : Radio) → Sound r → (chips others report : List ℕ) (count : ℕ) → length (frame r report) ≤ length others
-    → take (length (frame r report)) chips ≡ take (length (frame r report)) others → Near r chips report count → Near r others report count
-near-same r S chips others report count h e n =
+    -- The distance of a whole prefix from a frame is the sum of the distances of the windows of
+    -- its symbols.
+    pub sum-of-windows : (chips : List ℕ) → length (frameWith r bit report) ≤ length chips
+        → distance (take (length (frameWith r bit report)) chips) (frameWith r bit report) ≡ differences r chips (frameWith r bit report) (length vs)
+    sum-of-windows chips h =
+        let f = frameWith r bit report in
+        let e = frame-size r S bit report in
+        let k = length vs * r .size in
+        ap (λ (n : ℕ). distance (take n chips) f) e
+        ∙ ap (distance (take k chips)) (sym (take-all k f (omega arith)))
+        ∙ front-distance r chips f (length vs) (omega arith) (omega arith)
+
+-- Chips near a frame are so by the chips of that frame alone: others that begin with the same are
+-- as near.
+pub near-same : (r : Radio) (chips others frame : List ℕ) (count : ℕ) → length frame ≤ length others
+    → take (length frame) chips ≡ take (length frame) others → Near r chips frame count → Near r others frame count
+near-same r chips others frame count h e n =
     record {
       long = h;
       chip = rw (← e) (n .chip);
-      near = λ s l. rw (window-same r s (length (frame r report)) others chips (window-in r S report s l) (sym e)) (n .near s l);
+      near = λ s l. rw (window-same r s (length frame) others chips l (sym e)) (n .near s l);
       sum = rw (← e) (n .sum);
     }
 
--- The distance of a whole prefix from a frame is the sum of the distances of the windows of
--- its symbols.
-pub sum-of-windows : (r : Radio) → Sound r → (chips report : List ℕ) → length (frame r report) ≤ length chips
-    → distance (take (length (frame r report)) chips) (frame r report) ≡ differences r chips (frame r report) (length (symbols r report))
-sum-of-windows r S chips report h =
-    let e = frame-size r S report in
-    let k = length (symbols r report) * r .size in
-    ap (λ (n : ℕ). distance (take n chips) (frame r report)) e
-    ∙ ap (distance (take k chips)) (sym (take-all k (frame r report) (omega arith)))
-    ∙ front-distance r chips (frame r report) (length (symbols r report)) (omega arith) (omega arith)
+-- ---- the frames of a report
+
+-- they are those with the reserved bit 0 or 1
+module _ (r : Radio) (report : List ℕ) where
+  pub one-of : (bit : ℕ) → bit ≤ 1 → OneOf (frames r report) (frameWith r bit report)
+  one-of zero h = inl refl
+  one-of (suc zero) h = inr (inl refl)
+  one-of (suc (suc bit)) h = absurd (omega arith)
+
+  abbrev pub Bit : List ℕ → Type 0
+  Bit frame = (bit : ℕ) × (bit ≤ 1) × (frame ≡ frameWith r bit report)
+
+  pub bit-of : (frame : List ℕ) → OneOf (frames r report) frame → Bit frame
+  bit-of frame = ⊎-elim (λ e. (0, omega arith, e)) (⊎-elim (λ e. (1, omega arith, e)) (λ n. absurd n))
+
+-- each is of chips 0 and 1, and as long as the one that is written
+module _ (r : Radio) (S : Sound r) (report frame : List ℕ) (m : OneOf (frames r report) frame) where
+  pub member-good : bad frame ≡ false
+  member-good = go (bit-of r report frame m)
+    where
+      go : Bit r report frame → bad frame ≡ false
+      go (bit, h, e) = rw e (frame-good r S bit report)
+
+  pub member-long : length frame ≡ length (frameWith r 0 report)
+  member-long = go (bit-of r report frame m)
+    where
+      go : Bit r report frame → length frame ≡ length (frameWith r 0 report)
+      go (bit, h, e) = ap length e ∙ frame-long r S bit report ∙ sym (frame-long r S 0 report)

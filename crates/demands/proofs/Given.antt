@@ -4,11 +4,11 @@ use mathlib.Core.Path.{_≡_, refl, ap, _∙_}
 use mathlib.Core.Bool.{Bool, true, false, not}
 use mathlib.Core.List.{List, [], _∷_}
 use mathlib.Core.Logic.{_⊎_, inl, inr}
-use Prim.Native.Nat.{ℕ, _+_, _*_}
+use Prim.Native.Nat.{ℕ, _+_, _*_, _≤_}
 use lib.ListN.{length, take}
 use lib.Dec.{eqb, ltb}
 use borrow.Author.Tests.{eqb-true, eqb-false, not-false}
-use Rattle.codes.specs.Numbers.{DONE, BADMODE, NOROOM, RUNOUT, NOCHIP, LOST, PREAMBLE, BADSTART, RESERVED, ENDED, BADPART, NOTENDED, MORE, FORGED}
+use Rattle.codes.specs.Numbers.{DONE, BADMODE, NOROOM, RUNOUT, NOCHIP, LOST, PREAMBLE, BADSTART, ENDED, BADPART, NOTENDED, MORE, FORGED}
 use Rattle.codes.specs.Chips.{pick, among, bad}
 use Rattle.codes.specs.Radio.{Radio, known, radioOf}
 use Rattle.codes.specs.Symbol.{valued, symbolOf}
@@ -19,6 +19,7 @@ use Rattle.reader.specs.declared.Hand.{Hand}
 use Rattle.reader.specs.Order.{Answer, refused, done, both, ends, rules}
 use Rattle.reader.specs.Read.{told}
 use Rattle.reader.specs.Taking.{stopped, rawFrom, shifted, lengthAfter, moved, advanced, followed}
+use Rattle.reader.proofs.Rules.{roomy, length-few}
 use Rattle.reader.proofs.Steps.{followed-stops, kept-stops}
 use Rattle.receiver.specs.declared.Receiver.{Receiver}
 use Rattle.receiver.specs.declared.Step.{Step}
@@ -41,7 +42,7 @@ among-pass p (y ∷ ys) t x m =
 
 -- those of a symbol in hand: go on, done, or refused
 abbrev pub ofSymbol : List ℕ
-ofSymbol = DONE ∷ NOCHIP ∷ LOST ∷ PREAMBLE ∷ BADSTART ∷ RESERVED ∷ MORE ∷ []
+ofSymbol = DONE ∷ NOCHIP ∷ LOST ∷ PREAMBLE ∷ BADSTART ∷ MORE ∷ []
 
 symbol-given : (r : Radio) (w : List ℕ) → among (symbolOf r w .number) ofSymbol ≡ true
 unfolding symbolOf valued
@@ -51,15 +52,14 @@ symbol-given r w =
     P : Symbol → Type 0
     P z = among (z .number) ofSymbol ≡ true
 
--- with room for every report 3 is none of them, since 9 is tested before it
-rules-given : (per s raw start n : ℕ) → among (rules per 127 s raw start n) ofSymbol ≡ true
+-- with room for every report 3 is none of them
+rules-given : (per s raw start n : ℕ) → (ends per 5 s ≡ true → n ≤ 127) → among (rules per 127 s raw start n) ofSymbol ≡ true
 unfolding rules
-rules-given per s raw start n =
+rules-given per s raw start n q =
     by-pick P (both (ltb s (4 * per)) (not (eqb raw 0))) _ _ (λ _. refl)
     (λ _. by-pick P (both (ends per 4 s) (not (eqb start startOctet))) _ _ (λ _. refl)
-    (λ _. by-pick P (both (ends per 5 s) (ltb 127 n)) _ _ (λ _. refl)
-    (λ f. by-pick P (both (ends per 5 s) (ltb 127 n)) _ _ (λ t. not-both _ t f)
-    (λ _. by-pick P (ends per (5 + n) s) _ _ (λ _. refl) (λ _. refl)))))
+    (λ _. by-pick P (both (ends per 5 s) (ltb 127 n)) _ _ (λ t. not-both _ t (roomy per s n q))
+    (λ _. by-pick P (ends per (5 + n) s) _ _ (λ _. refl) (λ _. refl))))
   where
     P : ℕ → Type 0
     P z = among z ofSymbol ≡ true
@@ -83,7 +83,8 @@ module _ (r : Radio) (h : Hand) (v d : ℕ) where
 
   advanced-given : among (advanced r h v d .number) ofSymbol ≡ true
   advanced-given =
-      let given = rules-given (perOctet r) (h .taken) (rawFrom r (h .last) v) octet n in
+      let given =
+      rules-given (perOctet r) (h .taken) (rawFrom r (h .last) v) octet n (length-few (perOctet r) (h .taken) (h .length) octet) in
       advanced-ways (λ g. among (g .number) ofSymbol ≡ true) (λ _. given) given
 
 followed-given : (mode : ℕ) → known mode ≡ true → (h : Hand) (w : List ℕ) → among (followed mode h (symbolOf (radioOf mode) w) .number) ofSymbol ≡ true
@@ -113,13 +114,13 @@ push-ways c part P f e b t =
 
 -- Push gives back one of these numbers.
 pub push-numbers : (c : Receiver) (part : List ℕ)
-    → among (pushOf c part .number) (DONE ∷ NOCHIP ∷ LOST ∷ PREAMBLE ∷ BADSTART ∷ RESERVED ∷ ENDED ∷ BADPART ∷ MORE ∷ FORGED ∷ []) ≡ true
+    → among (pushOf c part .number) (DONE ∷ NOCHIP ∷ LOST ∷ PREAMBLE ∷ BADSTART ∷ ENDED ∷ BADPART ∷ MORE ∷ FORGED ∷ []) ≡ true
 push-numbers c part =
     push-ways c part (λ (s : Step). among (s .number) given ≡ true) (λ _. refl) refl refl
     (λ f o. among-pass (λ x. among x given) ofSymbol refl (tookSymbol c (symbolOf (radioOf (c .mode)) part) .number) (took-given c part f o))
   where
     given : List ℕ
-    given = DONE ∷ NOCHIP ∷ LOST ∷ PREAMBLE ∷ BADSTART ∷ RESERVED ∷ ENDED ∷ BADPART ∷ MORE ∷ FORGED ∷ []
+    given = DONE ∷ NOCHIP ∷ LOST ∷ PREAMBLE ∷ BADSTART ∷ ENDED ∷ BADPART ∷ MORE ∷ FORGED ∷ []
 
 -- 34, 10 and 11 give the record back as it was. Any other number is the one that the record then
 -- holds: 13 while it is open, or what ended it.
@@ -176,7 +177,7 @@ pub take-refused : (c : Receiver) (buffer : List ℕ) → (takeOf c buffer .answ
 take-refused c buffer = leaves (takes c (length buffer)) buffer
 
 -- A refusal of push's symbol leaves the record as it was, but for the number that ends it.
-pub push-refused : (c : Receiver) (part : List ℕ) → among (pushOf c part .number) (NOCHIP ∷ LOST ∷ PREAMBLE ∷ BADSTART ∷ RESERVED ∷ []) ≡ true
+pub push-refused : (c : Receiver) (part : List ℕ) → among (pushOf c part .number) (NOCHIP ∷ LOST ∷ PREAMBLE ∷ BADSTART ∷ []) ≡ true
     → pushOf c part .receiver ≡ endedWith (pushOf c part .number) c
 push-refused c part =
     push-ways c part (λ (s : Step). among (s .number) refusal ≡ true → s .receiver ≡ endedWith (s .number) c)
@@ -188,7 +189,7 @@ push-refused c part =
     ∙ ap (λ (g : Hand). held (c .mode) g (c .octets)) (followed-stops (c .mode) (handOf c) (symbolOf (radioOf (c .mode)) part) m d))
   where
     refusal : List ℕ
-    refusal = NOCHIP ∷ LOST ∷ PREAMBLE ∷ BADSTART ∷ RESERVED ∷ []
+    refusal = NOCHIP ∷ LOST ∷ PREAMBLE ∷ BADSTART ∷ []
 
     none : (x y : ℕ) → among x refusal ≡ true → among y refusal ≡ false → x ≡ y → ⊥
     none x y t f e = not-both (among y refusal) (rw e at t) f

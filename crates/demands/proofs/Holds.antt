@@ -34,7 +34,7 @@ module _ (mode : ℕ) (c : Receiver) (M : Made mode c) where
         F .total
         ∙ ap (λ (m : ℕ). (6 + c .length) * perOctet (radioOf m)) (M .own)
         ∙ ap (λ (l : ℕ). (6 + l) * perOctet (radioOf mode)) (sym report-long)
-        ∙ sym (symbols-long (radioOf mode) report)
+        ∙ sym (symbols-long (radioOf mode) 0 report)
 
     passed : forged c ≡ false
     passed = passes c (complete k d F)

@@ -1,7 +1,7 @@
 -- The demands, and the laws that they stand on, leaves first. To be read are Demand1, Demand2,
 -- Demand3 and, from it, PutRight, NoFlat, OneAnswer and Reader; of the stepping receiver Stepped,
--- Stray, Forged, Holds and Given; of the checked profile Checked and Misread. Each opens with what
--- it says in plain words.
+-- Stray, Forged, Holds and Given; of the checked profile Checked and Misread; of the reserved bit
+-- TurnsOver and Withdrawn. Each opens with what it says in plain words.
 pub mod Digits
 pub mod Back
 pub mod Octet
@@ -30,5 +30,7 @@ pub mod Forged
 pub mod Holds
 pub mod Stepped
 pub mod Checked
+pub mod Withdrawn
 pub mod Spread
 pub mod Misread
+pub mod TurnsOver

@@ -9,9 +9,9 @@ use Prim.Native.Nat.{ℕ}
 use native.Mathlib.Omega.{arith}
 use lib.Dec.{eqb}
 use lib.ListN.{length}
-use borrow.Author.Tests.{ne-eqb}
+use borrow.Author.Tests.{ne-eqb, eqb-false}
 use Rattle.codes.specs.declared.Symbol.{Symbol}
-use Rattle.codes.specs.Numbers.{DONE, BADMODE, RUNOUT, NOCHIP, LOST, PREAMBLE, BADSTART, RESERVED, MORE}
+use Rattle.codes.specs.Numbers.{DONE, BADMODE, RUNOUT, NOCHIP, LOST, PREAMBLE, BADSTART, MORE}
 use Rattle.codes.specs.Chips.{among}
 use Rattle.codes.specs.Radio.{known, radioOf}
 use Rattle.codes.specs.Symbol.{symbolOf}
@@ -34,7 +34,7 @@ use Rattle.demands.proofs.Given.{among-pass, ofSymbol, push-ways, took-
 
 -- the numbers that end a record
 abbrev endings : List ℕ
-endings = BADMODE ∷ RUNOUT ∷ NOCHIP ∷ LOST ∷ PREAMBLE ∷ BADSTART ∷ RESERVED ∷ []
+endings = BADMODE ∷ RUNOUT ∷ NOCHIP ∷ LOST ∷ PREAMBLE ∷ BADSTART ∷ []
 
 -- how far it is
 pub data Honest (c : Receiver) : Type 0 where
@@ -51,6 +51,12 @@ pub record Made (mode : ℕ) (c : Receiver) : Type 0 where
 -- a number that ends a record is not another one
 pub not-ending : (x y : ℕ) → among x endings ≡ true → among y endings ≡ false → x ≡ y → ⊥
 not-ending x y t f e = not-both (among y endings) (rw e at t) f
+
+-- nor does such a record hold one that neither wants more, nor is done, nor ends one
+pub holds-no : (y : ℕ) → eqb y MORE ≡ false → eqb y DONE ≡ false → among y endings ≡ false → (c : Receiver) → Honest c → c .ended ≡ y → ⊥
+holds-no y m d f c (wanting k before C O) e = eqb-false y MORE m (sym e ∙ O .number)
+holds-no y m d f c (complete k w F) e = eqb-false y DONE d (sym e ∙ w)
+holds-no y m d f c (ended t) e = not-ending (c .ended) y t f e
 
 pub passes : (c : Receiver) → Honest c → forged c ≡ false
 passes c (wanting k before C O) = open-honest c k O

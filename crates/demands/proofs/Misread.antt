@@ -1,6 +1,6 @@
--- A frame that the checked writer wrote, of which one symbol of the report or of its FCS is read as
--- another value, is refused with 15. What is then read is the frame of another report, as long as
--- the one sent: the raw symbols differ at that symbol and, in a chained radio, at the next, so the
+-- A frame of a report with its FCS, the one that the checked writer wrote or that with the reserved
+-- bit set, of which one symbol of the report or of its FCS is read as another value, is refused
+-- with 15. What is then read is the frame of another report, as long as the one sent: the raw symbols differ at that symbol and, in a chained radio, at the next, so the
 -- bits differ within one run of 16, and the FCS of the other is wrong. For any sound radio. Assumes
 -- nothing.
 use mathlib.Core.Path.{_≡_, refl, sym, ap, ap₂, _∙_}
@@ -18,9 +18,9 @@ use Rattle.codes.specs.Chips.{distance}
 use Rattle.codes.specs.Symbol.{symbolOf}
 use Rattle.codes.proofs.Facts.{sound}
 use Rattle.codes.proofs.Unique.{Reads, of-symbol}
-use Rattle.frame.specs.Frame.{startOctet, octets, perOctet, raws, encode, symbols}
+use Rattle.frame.specs.Frame.{startOctet, octetsWith, perOctet, raws, encode, symbols, symbolsWith}
 use Rattle.frame.proofs.Below.{Below, below-at, below-set}
-use Rattle.frame.proofs.Count.{raws-below, symbols-long, symbols-below}
+use Rattle.frame.proofs.Count.{raws-below, symbols-long, symbols-same, symbols-below}
 use Rattle.reader.specs.Received.{decode, octetAt, octetsFrom}
 use Rattle.reader.specs.Order.{window, whole, repaired, reading}
 use Rattle.reader.proofs.Raw.{per-positive, bits-pos, decode-long, decode-below, octets-long, size-pos}
@@ -54,13 +54,14 @@ raw-elsewhere r last (u ∷ w ∷ vs) zero v (suc (suc j)) n m = refl
 raw-elsewhere r last (u ∷ vs) (suc s) v zero n m = refl
 raw-elsewhere r last (u ∷ vs) (suc s) v (suc j) n m = raw-elsewhere r u vs s v j (λ e. n (ap suc e)) (λ e. m (ap suc e))
 
--- A report's frame, and its symbols but for one after the length octet, which is another value.
-module _ (r : Radio) (S : Sound r) (report : List ℕ) (P : Report report) (s v : ℕ) (h : 6 * perOctet r ≤ s) (below : v < 2 ^ r .bits) where
+-- One of a report's frames, and its symbols but for one after the length octet, which is
+-- another value.
+module _ (r : Radio) (S : Sound r) (bit : ℕ) (low : bit ≤ 1) (report : List ℕ) (P : Report report) (s v : ℕ) (h : 6 * perOctet r ≤ s) (below : v < 2 ^ r .bits) where
   abbrev vs : List ℕ
-  vs = symbols r report
+  vs = symbolsWith r bit report
 
   abbrev all : List ℕ
-  all = raws r (octets report)
+  all = raws r (octetsWith bit report)
 
   -- the values read, and the raw symbols that they make
   abbrev others : List ℕ
@@ -70,17 +71,17 @@ module _ (r : Radio) (S : Sound r) (report : List ℕ) (P : Report report) (s v 
   bs = decode r 0 others
 
   others-below : Below (2 ^ r .bits) others
-  others-below = below-set (2 ^ r .bits) vs s v (symbols-below r S report) below
+  others-below = below-set (2 ^ r .bits) vs s v (symbols-below r S bit report) below
 
   bs-below : Below (2 ^ r .bits) bs
   bs-below = decode-below r S 0 others others-below
 
   raw-again : decode r 0 vs ≡ all
-  unfolding symbols
-  raw-again = decode-encode r S 0 all (raws-below r (octets report))
+  unfolding symbolsWith
+  raw-again = decode-encode r S 0 all (raws-below r (octetsWith bit report))
 
   bs-long : length bs ≡ (6 + length report) * perOctet r
-  bs-long = decode-long r 0 others ∙ length-set vs s v ∙ symbols-long r report
+  bs-long = decode-long r 0 others ∙ length-set vs s v ∙ symbols-long r bit report
 
   -- the report in them
   abbrev other : List ℕ
@@ -98,11 +99,11 @@ module _ (r : Radio) (S : Sound r) (report : List ℕ) (P : Report report) (s v 
   pub other-long : length other ≡ length report
   other-long = octets-long r 6 (length report) bs
 
-  other-octets : octetsFrom r 0 (6 + length report) bs ≡ octets other
+  other-octets : octetsFrom r 0 (6 + length report) bs ≡ octetsWith bit other
   unfolding octetsFrom
   other-octets =
       let e : 6 + length report ≡ suc (suc (suc (suc (suc (suc (length report)))))) = omega arith in
-      let sent = again r S report P in
+      let sent = again r S bit low report P in
       rw (
         e,
         front 0 (omega arith) ∙ ap (λ (xs : List ℕ). getD xs 0 0) sent,
@@ -114,18 +115,18 @@ module _ (r : Radio) (S : Sound r) (report : List ℕ) (P : Report report) (s v 
         other-long,
       )
 
-  other-raws : raws r (octets other) ≡ bs
+  other-raws : raws r (octetsWith bit other) ≡ bs
   other-raws = ap (raws r) (sym other-octets) ∙ raws-octets r S (6 + length report) bs bs-below bs-long
 
-  pub other-symbols : symbols r other ≡ others
-  unfolding symbols
+  pub other-symbols : symbolsWith r bit other ≡ others
+  unfolding symbolsWith
   other-symbols = ap (encode r 0) other-raws ∙ encode-decode r S 0 others others-below
 
   pub other-below : Below 256 other
   other-below = octets-below r S 6 (length report) bs bs-below
 
   -- the raw symbols differ at s and s + 1 at most
-  differ-two : (j : ℕ) → (j ≡ s → ⊥) → (j ≡ suc s → ⊥) → getD (raws r (octets report)) j 0 ≡ getD (raws r (octets other)) j 0
+  differ-two : (j : ℕ) → (j ≡ s → ⊥) → (j ≡ suc s → ⊥) → getD (raws r (octetsWith bit report)) j 0 ≡ getD (raws r (octetsWith bit other)) j 0
   differ-two j n m = rw other-raws (sym (raw-elsewhere r 0 vs s v j n m ∙ rw raw-again))
 
   bits-few : r .bits ≤ 8
@@ -135,20 +136,20 @@ module _ (r : Radio) (S : Sound r) (report : List ℕ) (P : Report report) (s v 
   sent-after : 48 ≤ s * r .bits
   sent-after = omega (arith, mul-le-mul-right (r .bits) h, mul-assoc 6 (perOctet r) (r .bits), ap (λ (n : ℕ). 6 * n) (S .divides))
 
-  report-bit : (xs : List ℕ) (i : ℕ) → getD (bitsOf (r .bits) (raws r (octets xs))) (48 + i) 0 ≡ getD (bits xs) i 0
+  report-bit : (xs : List ℕ) (i : ℕ) → getD (bitsOf (r .bits) (raws r (octetsWith bit xs))) (48 + i) 0 ≡ getD (bits xs) i 0
   report-bit xs i =
-      let six : List ℕ = 0 ∷ 0 ∷ 0 ∷ 0 ∷ startOctet ∷ length xs ∷ [] in
-      ap (λ (l : List ℕ). getD l (48 + i) 0) (sym (bits-raws r S (octets xs)) ∙ bits-append six xs)
+      let six : List ℕ = 0 ∷ 0 ∷ 0 ∷ 0 ∷ startOctet ∷ (length xs + 128 * bit) ∷ [] in
+      ap (λ (l : List ℕ). getD l (48 + i) 0) (sym (bits-raws r S (octetsWith bit xs)) ∙ bits-append six xs)
       ∙ ap (λ (n : ℕ). getD (bits six ++ bits xs) (n + i) 0) (sym (bits-long six))
       ∙ getD-append-add (bits six) (bits xs) i 0
 
   -- so the report's bits differ within a run of 16
   pub bits-within : (i : ℕ) → (getD (bits report) i 0 ≡ getD (bits other) i 0 → ⊥) → (s * r .bits - 48 ≤ i) × (i < s * r .bits - 48 + 16)
   bits-within i n =
-      let w = within-two (r .bits) (bits-pos r S) bits-few (raws r (octets report)) (raws r (octets other)) s differ-two (48 + i) (λ e. n (shifted e)) in
+      let w = within-two (r .bits) (bits-pos r S) bits-few (raws r (octetsWith bit report)) (raws r (octetsWith bit other)) s differ-two (48 + i) (λ e. n (shifted e)) in
       (omega (arith, w .0, w .1, sent-after), omega (arith, w .0, w .1, sent-after))
     where
-      shifted : getD (bitsOf (r .bits) (raws r (octets report))) (48 + i) 0 ≡ getD (bitsOf (r .bits) (raws r (octets other))) (48 + i) 0
+      shifted : getD (bitsOf (r .bits) (raws r (octetsWith bit report))) (48 + i) 0 ≡ getD (bitsOf (r .bits) (raws r (octetsWith bit other))) (48 + i) 0
           → getD (bits report) i 0 ≡ getD (bits other) i 0
       shifted e = sym (report-bit report i) ∙ e ∙ report-bit other i
 
@@ -173,10 +174,10 @@ module _ (r : Radio) (S : Sound r) (chips vs : List ℕ) (A : ReadAs r chips vs)
       }
 
 -- A checked frame of which one symbol, of the report or of its FCS, is read as another value.
-module _ (mode : ℕ) (k : known mode ≡ true) (report : List ℕ) (o : Below 256 report) (one : 1 ≤ length report) (short : length report ≤ 125)
-    (s v : ℕ) (h : 6 * perOctet (radioOf mode) ≤ s) (l : s < length (symbols (radioOf mode) (withFcs report)))
-    (n : v ≡ getD (symbols (radioOf mode) (withFcs report)) s 0 → ⊥)
-    (chips : List ℕ) (A : ReadAs (radioOf mode) chips (set (symbols (radioOf mode) (withFcs report)) s v)) where
+module _ (mode : ℕ) (k : known mode ≡ true) (bit : ℕ) (low : bit ≤ 1) (report : List ℕ) (o : Below 256 report) (one : 1 ≤ length report) (short : length report ≤ 125)
+    (s v : ℕ) (h : 6 * perOctet (radioOf mode) ≤ s) (l : s < length (symbolsWith (radioOf mode) bit (withFcs report)))
+    (n : v ≡ getD (symbolsWith (radioOf mode) bit (withFcs report)) s 0 → ⊥)
+    (chips : List ℕ) (A : ReadAs (radioOf mode) chips (set (symbolsWith (radioOf mode) bit (withFcs report)) s v)) where
   abbrev r : Radio
   r = radioOf mode
 
@@ -188,28 +189,28 @@ module _ (mode : ℕ) (k : known mode ≡ true) (report : List ℕ) (o : Below 2
 
   v-known : v < 2 ^ r .bits
   v-known =
-      let e : getD (set (symbols r sent) s v) s 0 ≡ v = getD-set-same (symbols r sent) s v 0 l in
-      let q = read-at r (sound mode) chips (set (symbols r sent) s v) A s (omega (arith, l, length-set (symbols r sent) s v)) .known in
+      let e : getD (set (symbolsWith r bit sent) s v) s 0 ≡ v = getD-set-same (symbolsWith r bit sent) s v 0 l in
+      let q = read-at r (sound mode) chips (set (symbolsWith r bit sent) s v) A s (omega (arith, l, length-set (symbolsWith r bit sent) s v)) .known in
       rw (e, sound mode .many) at q
 
   abbrev got : List ℕ
-  got = other r (sound mode) sent P s v h v-known
+  got = other r (sound mode) bit low sent P s v h v-known
 
   long : length got ≡ length report + 2
-  long = other-long r (sound mode) sent P s v h v-known ∙ with-long report
+  long = other-long r (sound mode) bit low sent P s v h v-known ∙ with-long report
 
   -- it is another report
   another : sent ≡ got → ⊥
   another e =
       n
       (sym
-      (ap (λ (xs : List ℕ). getD xs s 0) (ap (symbols r) e ∙ other-symbols r (sound mode) sent P s v h v-known)
-      ∙ getD-set-same (symbols r sent) s v 0 l))
+      (ap (λ (xs : List ℕ). getD xs s 0) (ap (symbolsWith r bit) e ∙ other-symbols r (sound mode) bit low sent P s v h v-known)
+      ∙ getD-set-same (symbolsWith r bit sent) s v 0 l))
 
   got-wrong : checkOf got ≡ BADCHECK
   got-wrong =
-      run-caught report got o (other-below r (sound mode) sent P s v h v-known) long one another (s * r .bits - 48)
-      (bits-within r (sound mode) sent P s v h v-known)
+      run-caught report got o (other-below r (sound mode) bit low sent P s v h v-known) long one another (s * r .bits - 48)
+      (bits-within r (sound mode) bit low sent P s v h v-known)
 
   -- It is 15, at the frame's number of symbols, with nothing stored.
   pub one-misread : (buffer : List ℕ) → length report + 2 ≤ length buffer
@@ -217,12 +218,13 @@ module _ (mode : ℕ) (k : known mode ≡ true) (report : List ℕ) (o : Below 2
   unfolding reading
   one-misread buffer room =
       let S = sound mode in
-      let vs = set (symbols r sent) s v in
-      let q = other-symbols r S sent P s v h v-known in
+      let vs = set (symbolsWith r bit sent) s v in
+      let q = other-symbols r S bit low sent P s v h v-known in
       let R : Report got =
-      record { short = omega (arith, long, short); octets = below-at 256 got (other-below r S sent P s v h v-known) } in
+      record { short = omega (arith, long, short); octets = below-at 256 got (other-below r S bit low sent P s v h v-known) } in
       let T = rw (← q) at (read-stands r S chips vs A) in
-      let a = windows-answer r S (length buffer) (whole r chips) got R (omega (arith, long, room)) _ T in
+      let a = windows-answer r S (whole r chips) bit low got R _ T (length buffer) (omega (arith, long, room)) in
       let out = success-answers mode k chips buffer got _ .1 a in
       checked-refused mode chips buffer got _ out (λ z. eqb-false BADCHECK DONE refl (sym got-wrong ∙ z))
-      ∙ ap₂ (λ x place. tells x place buffer) got-wrong (ap length q ∙ length-set (symbols r sent) s v)
+      ∙ ap₂ (λ x place. tells x place buffer) got-wrong
+      (sym (symbols-same r bit got) ∙ ap length q ∙ length-set (symbolsWith r bit sent) s v ∙ symbols-same r bit sent)

@@ -7,16 +7,21 @@ use native.Mathlib.Omega.{arith}
 use lib.ListN.{length, getD, replicate}
 use Rattle.codes.specs.Chips.{distance}
 use Rattle.codes.specs.Radio.{Radio, Sound, Unflat, word}
-use Rattle.frame.specs.Frame.{symbols}
-use Rattle.reader.specs.Order.{window}
+use Rattle.frame.specs.Frame.{symbols, symbolsWith}
+use Rattle.frame.proofs.Count.{symbols-same}
+use Rattle.reader.specs.Order.{window, whole}
 use Rattle.demands.specs.Words.{Answers}
-use Rattle.demands.proofs.Demand3.{answer-room, demand-3}
-use Rattle.demands.proofs.Frames.{symbol-known, frame-window}
+use Rattle.demands.proofs.Ended.{bitIn}
+use Rattle.demands.proofs.Demand3.{answer-frame}
+use Rattle.demands.proofs.Frames.{symbol-known, window-in, frame-window}
 
 -- No symbol of an accepted frame is all 0 or all 1.
 pub no-flat : (r : Radio) → Sound r → Unflat r → (room : ℕ) (chips report : List ℕ) (count : ℕ) → Answers r room chips report count
     → (s : ℕ) → s < length (symbols r report) → (c : ℕ) → c ≤ 1 → window r chips s ≡ replicate (r .size) c → ⊥
 no-flat r S U room chips report count a s h c l e =
-    let near = demand-3 r S room chips report count (answer-room r S room chips report count a) .0 a .1 .near s h in
-    let close : distance (replicate (r .size) c) (word r (getD (symbols r report) s 0)) ≤ r .limit = rw (e, frame-window r S report s h) at near in
-    omega (arith, U c (getD (symbols r report) s 0) l (symbol-known r S report s h))
+    let bit = bitIn r (whole r chips) in
+    let vs = symbolsWith r bit report in
+    let q : s < length vs = rw (symbols-same r bit report) h in
+    let near = answer-frame r S room chips report count a .1 .near s (window-in r S bit report s q) in
+    let close : distance (replicate (r .size) c) (word r (getD vs s 0)) ≤ r .limit = rw (e, frame-window r S bit report s q) at near in
+    omega (arith, U c (getD vs s 0) l (symbol-known r S bit report s q))

@@ -7,33 +7,39 @@ use native.Mathlib.Omega.{arith}
 use lib.ListN.{length, take, length-append}
 use lib.Seq.{take-at, length-take-le}
 use Rattle.codes.specs.Radio.{Radio, Sound}
-use Rattle.frame.specs.Frame.{frame}
 use Rattle.reader.specs.Read.{told, answerAt, readOf}
-use Rattle.demands.specs.Words.{Report, Answers, Near}
-use Rattle.demands.proofs.Demand3.{answer-room, demand-3}
+use Rattle.demands.specs.Words.{Report, frames, OneOf, frameRead, Answers, Near}
+use Rattle.demands.proofs.Demand3.{answer-room, demand-3, near-read}
 use Rattle.demands.proofs.Path.{same-parts}
-use Rattle.demands.proofs.Frames.{near-same}
+use Rattle.demands.proofs.Frames.{near-same, member-long}
 
--- chips are near the frame of one report at most, with one count
-pub one-report : (r : Radio) → Sound r → (chips a b : List ℕ) (c d : ℕ) → Report a → Report b
-    → Near r chips a c → Near r chips b d → (a ≡ b) × (c ≡ d)
-one-report r S chips a b c d p q m n =
-    let e = sym (demand-3 r S 127 chips a c (p .short) .1 (p, m)) ∙ demand-3 r S 127 chips b d (q .short) .1 (q, n) in
+-- chips are near one frame at most, of one report, with one count
+pub one-frame : (r : Radio) → Sound r → (chips a b f g : List ℕ) (c d : ℕ) → Report a → Report b → OneOf (frames r a) f → OneOf (frames r b) g
+    → Near r chips f c → Near r chips g d → (a ≡ b) × (f ≡ g) × (c ≡ d)
+one-frame r S chips a b f g c d p q k l m n =
+    let e =
+    sym (demand-3 r S 127 chips a c (p .short) .1 (p, record { frame = f; member = k; near = m }))
+    ∙ demand-3 r S 127 chips b d (q .short) .1 (q, record { frame = g; member = l; near = n }) in
     let s = same-parts _ _ c d a b e in
-    (s .1, s .2)
+    (s .1, near-read r S chips a f c p k m ∙ ap (frameRead r chips) (s .1) ∙ sym (near-read r S chips b g d q l n), s .2)
 
--- other chips after the frame: the same answer
+-- other chips after the frame, as long as each of the report's is: the same answer
 pub after-frame : (r : Radio) → Sound r → (room : ℕ) (chips report : List ℕ) (count : ℕ) → Answers r room chips report count
-    → (more : List ℕ) → Answers r room (take (length (frame r report)) chips ++ more) report count
-after-frame r S room chips report count a more =
+    → (frame : List ℕ) → OneOf (frames r report) frame → (more : List ℕ) → Answers r room (take (length frame) chips ++ more) report count
+after-frame r S room chips report count a frame m more =
     let l = answer-room r S room chips report count a in
     let near = demand-3 r S room chips report count l .0 a in
-    let k = length (frame r report) in
-    let t = length-take-le k chips (near .1 .long) in
+    let f = near .1 .frame in
+    let k = length f in
+    let same : length frame ≡ k = member-long r S report frame m ∙ sym (member-long r S report f (near .1 .member)) in
+    let t = length-take-le k chips (near .1 .near .long) in
     let others = take k chips ++ more in
     let long : k ≤ length others = omega (arith, length-append (take k chips) more) in
-    demand-3 r S room others report count l .1
-    (near .0, near-same r S chips others report count long (sym (take-at (take k chips) more k t)) (near .1))
+    rw same
+    (demand-3 r S room others report count l .1 (
+      near .0,
+      record { frame = f; member = near .1 .member; near = near-same r chips others f count long (sym (take-at (take k chips) more k t)) (near .1 .near) },
+    ))
 
 -- another room that has place for the report: the same answer
 pub any-room : (r : Radio) → Sound r → (room : ℕ) (chips report : List ℕ) (count : ℕ) → Answers r room chips report count

@@ -8,7 +8,7 @@ use lib.ListN.{length}
 use lib.Dec.{eqb, ltb}
 use borrow.Author.Tests.{eqb-true, eqb-false, ltb-true}
 use Rattle.codes.specs.declared.Symbol.{Symbol}
-use Rattle.codes.specs.Numbers.{DONE, NOROOM, RUNOUT, NOCHIP, LOST, PREAMBLE, BADSTART, RESERVED, MORE}
+use Rattle.codes.specs.Numbers.{DONE, NOROOM, RUNOUT, NOCHIP, LOST, PREAMBLE, BADSTART, MORE}
 use Rattle.codes.specs.Chips.{bad, among}
 use Rattle.codes.specs.Radio.{Radio}
 use Rattle.codes.specs.Symbol.{valued, symbolOf}
@@ -23,13 +23,13 @@ abbrev pub Standing : ℕ → Answer → Type 0
 Standing per (refused x place) = Placed per x place
 Standing per (done place report count) = Unit {0}
 
--- another number than those four may stand anywhere
-pub elsewhere : (per x place : ℕ) → among x (PREAMBLE ∷ BADSTART ∷ RESERVED ∷ NOROOM ∷ []) ≡ false → Placed per x place
+-- another number than those three may stand anywhere
+pub elsewhere : (per x place : ℕ) → among x (PREAMBLE ∷ BADSTART ∷ NOROOM ∷ []) ≡ false → Placed per x place
 elsewhere per x place f =
-    record { preamble = λ e. other PREAMBLE e refl; start = λ e. other BADSTART e refl; reserved = λ e. other RESERVED e refl; room = λ e. other NOROOM e refl }
+    record { preamble = λ e. other PREAMBLE e refl; start = λ e. other BADSTART e refl; room = λ e. other NOROOM e refl }
   where
-    other : {A : Type 0} (y : ℕ) → x ≡ y → among y (PREAMBLE ∷ BADSTART ∷ RESERVED ∷ NOROOM ∷ []) ≡ true → A
-    other y e t = not-both (among y (PREAMBLE ∷ BADSTART ∷ RESERVED ∷ NOROOM ∷ [])) t (rw e at f)
+    other : {A : Type 0} (y : ℕ) → x ≡ y → among y (PREAMBLE ∷ BADSTART ∷ NOROOM ∷ []) ≡ true → A
+    other y e t = not-both (among y (PREAMBLE ∷ BADSTART ∷ NOROOM ∷ [])) t (rw e at f)
 
 symbol-placed : (per s : ℕ) (r : Radio) (w : List ℕ) → Placed per (symbolOf r w .number) s
 unfolding symbolOf valued
@@ -47,23 +47,22 @@ clash x y f e = absurd (eqb-false x y f e)
 
 in-preamble : (per s : ℕ) → s < 4 * per → Placed per PREAMBLE s
 in-preamble per s h =
-    record { preamble = λ _. h; start = clash PREAMBLE BADSTART refl; reserved = clash PREAMBLE RESERVED refl; room = clash PREAMBLE NOROOM refl }
+    record { preamble = λ _. h; start = clash PREAMBLE BADSTART refl; room = clash PREAMBLE NOROOM refl }
 
 ends-start : (per s : ℕ) → suc s ≡ 5 * per → Placed per BADSTART s
 ends-start per s h =
-    record { preamble = clash BADSTART PREAMBLE refl; start = λ _. h; reserved = clash BADSTART RESERVED refl; room = clash BADSTART NOROOM refl }
+    record { preamble = clash BADSTART PREAMBLE refl; start = λ _. h; room = clash BADSTART NOROOM refl }
 
-ends-length : (per x s : ℕ) → eqb x PREAMBLE ≡ false → eqb x BADSTART ≡ false → suc s ≡ 6 * per → Placed per x s
-ends-length per x s p b h = record { preamble = clash x PREAMBLE p; start = clash x BADSTART b; reserved = λ _. h; room = λ _. h }
+ends-length : (per s : ℕ) → suc s ≡ 6 * per → Placed per NOROOM s
+ends-length per s h = record { preamble = clash NOROOM PREAMBLE refl; start = clash NOROOM BADSTART refl; room = λ _. h }
 
 rules-placed : (per room s raw start n : ℕ) → Placed per (rules per room s raw start n) s
 unfolding rules
 rules-placed per room s raw start n =
     by-pick P (both (ltb s (4 * per)) (not (eqb raw 0))) _ _ (λ t. in-preamble per s (ltb-true s (4 * per) (first-of _ _ t)))
     (λ _. by-pick P (both (ends per 4 s) (not (eqb start startOctet))) _ _ (λ t. ends-start per s (eqb-true (suc s) (5 * per) (first-of _ _ t)))
-    (λ _. by-pick P (both (ends per 5 s) (ltb 127 n)) _ _ (λ t. ends-length per RESERVED s refl refl (eqb-true (suc s) (6 * per) (first-of _ _ t)))
-    (λ _. by-pick P (both (ends per 5 s) (ltb room n)) _ _ (λ t. ends-length per NOROOM s refl refl (eqb-true (suc s) (6 * per) (first-of _ _ t)))
-    (λ _. by-pick P (ends per (5 + n) s) _ _ (λ _. elsewhere per DONE s refl) (λ _. elsewhere per MORE s refl)))))
+    (λ _. by-pick P (both (ends per 5 s) (ltb room n)) _ _ (λ t. ends-length per s (eqb-true (suc s) (6 * per) (first-of _ _ t)))
+    (λ _. by-pick P (ends per (5 + n) s) _ _ (λ _. elsewhere per DONE s refl) (λ _. elsewhere per MORE s refl))))
   where
     P : ℕ → Type 0
     P z = Placed per z s

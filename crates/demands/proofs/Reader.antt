@@ -13,11 +13,11 @@ use Rattle.codes.specs.Numbers.{DONE}
 use Rattle.codes.specs.Radio.{known, radioOf}
 use Rattle.codes.proofs.Facts.{sound, unflat}
 use Rattle.frame.specs.Outcome.{Outcome}
-use Rattle.frame.specs.Frame.{symbols, frame}
+use Rattle.frame.specs.Frame.{symbols}
 use Rattle.reader.specs.declared.Reading.{Reading}
 use Rattle.reader.specs.Order.{Answer, refused, done, window, reading}
 use Rattle.reader.specs.Read.{told, left, answerAt, answered, readOf}
-use Rattle.demands.specs.Words.{Report, Answers, Near, success}
+use Rattle.demands.specs.Words.{Report, frames, OneOf, Answers, Near, NearOne, success}
 use Rattle.reader.proofs.Fair.{Told, answer-told, Fair, answer-fair, done-unfair}
 use Rattle.demands.proofs.Demand3.{answer-place, answer-room, demand-3}
 use Rattle.demands.proofs.PutRight.{put-right}
@@ -47,9 +47,9 @@ module _ (mode : ℕ) (k : known mode ≡ true) (chips buffer report : List ℕ)
         λ q. e ∙ ap (λ (b : Answer). answered b buffer) q,
       )
 
-  -- With room, it is so exactly when the chips are near the report's frame with that count.
+  -- With room, it is so exactly when the chips are near one of the report's frames with that count.
   pub reads-report : length report ≤ length buffer → (readOf mode chips buffer ≡ success mode buffer report count)
-      ↔ (Report report × Near (radioOf mode) chips report count)
+      ↔ (Report report × NearOne (radioOf mode) chips report count)
   reads-report h =
       let d = demand-3 (radioOf mode) (sound mode) (length buffer) chips report count h in
       (λ o. d .0 (success-answers .0 o), λ n. success-answers .1 (d .1 n))
@@ -59,12 +59,14 @@ module _ (mode : ℕ) (k : known mode ≡ true) (chips buffer report : List ℕ)
   answers : Answers (radioOf mode) (length buffer) chips report count
   answers = success-answers mode k chips buffer report count .0 o
 
-  -- One wrong chip of its frame put right: the same report, and a count one less.
-  pub reads-put-right : (i : ℕ) → i < length (frame (radioOf mode) report) → (getD chips i 0 ≡ getD (frame (radioOf mode) report) i 0 → ⊥)
-      → (c : ℕ) × (count ≡ suc c) × (readOf mode (set chips i (getD (frame (radioOf mode) report) i 0)) buffer ≡ success mode buffer report c)
-  reads-put-right i h w =
-      let n = put-right (radioOf mode) (sound mode) (length buffer) chips report count answers i h w in
-      (n .0, n .1, success-answers mode k (set chips i (getD (frame (radioOf mode) report) i 0)) buffer report (n .0) .1 (n .2))
+  -- One wrong chip of the frame that it was read off put right: the same report, and a count
+  -- one less.
+  pub reads-put-right : (frame : List ℕ) → OneOf (frames (radioOf mode) report) frame → Near (radioOf mode) chips frame count
+      → (i : ℕ) → i < length frame → (getD chips i 0 ≡ getD frame i 0 → ⊥)
+      → (c : ℕ) × (count ≡ suc c) × (readOf mode (set chips i (getD frame i 0)) buffer ≡ success mode buffer report c)
+  reads-put-right frame m near i h w =
+      let n = put-right (radioOf mode) (sound mode) (length buffer) chips report count answers frame m near i h w in
+      (n .0, n .1, success-answers mode k (set chips i (getD frame i 0)) buffer report (n .0) .1 (n .2))
 
   -- No symbol of its frame is all 0 or all 1.
   pub reads-no-flat : (s : ℕ) → s < length (symbols (radioOf mode) report) → (c : ℕ) → c ≤ 1

@@ -31,7 +31,7 @@ bits-of-append b (v ∷ vs) ws =
     ap (λ (l : List ℕ). digits b 2 v ++ l) (bits-of-append b vs ws) ∙ sym (append-assoc (digits b 2 v) (bitsOf b vs) (bitsOf b ws))
 
 -- the lowest m bits, and n more
-digits-add : (m n x : ℕ) → digits (m + n) 2 x ≡ digits m 2 x ++ digits n 2 (x / 2 ^ m)
+pub digits-add : (m n x : ℕ) → digits (m + n) 2 x ≡ digits m 2 x ++ digits n 2 (x / 2 ^ m)
 unfolding digits
 digits-add zero n x = rw (zero-add n, div-one x)
 digits-add (suc m) n x =
@@ -39,7 +39,7 @@ digits-add (suc m) n x =
     rw (suc-add m n) (ap (λ (l : List ℕ). x % 2 ∷ l) (digits-add m n (x / 2) ∙ rw (shr-shr x 1 m, e)))
 
 -- the lowest bits of what is left of a number by their weight
-digits-low : (m x : ℕ) → digits m 2 (x % 2 ^ m) ≡ digits m 2 x
+pub digits-low : (m x : ℕ) → digits m 2 (x % 2 ^ m) ≡ digits m 2 x
 unfolding digits
 digits-low zero x = refl
 digits-low (suc m) x =

@@ -2,7 +2,7 @@
 -- For any radio. Assumes nothing.
 use mathlib.Core.Path.{_≡_, refl, sym, ap, _∙_}
 use mathlib.Core.List.{List, [], _∷_, map}
-use Prim.Native.Nat.{ℕ, zero, suc, _≤_, _<_}
+use Prim.Native.Nat.{ℕ, zero, suc, _*_, _≤_, _<_}
 use native.Mathlib.Omega.{arith}
 use lib.ListN.{length, getD, take}
 use lib.Seq.{getD-take, take-take}
@@ -10,9 +10,13 @@ use Rattle.codes.specs.Chips.{distance}
 use Rattle.codes.specs.Radio.{Radio, word}
 use Rattle.codes.specs.Symbol.{reads, symbolOf}
 use Rattle.codes.specs.declared.Symbol.{Symbol}
+use Rattle.frame.specs.Frame.{perOctet}
+use Rattle.reader.specs.Received.{received, octetAt}
 use Rattle.reader.specs.Order.{values, repaired}
 use Rattle.reader.proofs.Windows.{seen, seen-front}
 use Rattle.reader.proofs.Carried as carried
+use Rattle.demands.proofs.Back.{decode-take}
+use Rattle.demands.proofs.Octet.{octet-take}
 
 -- the windows begin with the symbols vs, at the distances from their words; count chips are
 -- repaired in all
@@ -50,3 +54,11 @@ module _ (r : Radio) (ws : List (List ℕ)) where
   pub values-take : (j k : ℕ) → j ≤ k → values (take j (seen r ws)) ≡ take j (values (take k (seen r ws)))
   values-take j k h =
       sym (take-map (λ (x : Symbol). x .value) j (take k (seen r ws)) ∙ ap values (take-take j k (seen r ws) h))
+
+  -- and an octet of the raw symbols of all windows is read off those up to its last
+  pub octet-front : (k n : ℕ) → suc k * perOctet r ≤ n
+      → octetAt r k (received r (values (take n (seen r ws)))) ≡ octetAt r k (received r (values (seen r ws)))
+  octet-front k n h =
+      ap (λ (vs : List ℕ). octetAt r k (received r vs)) (sym (take-map (λ (x : Symbol). x .value) n (seen r ws)))
+      ∙ ap (octetAt r k) (sym (decode-take r 0 n (values (seen r ws))))
+      ∙ octet-take r k n (received r (values (seen r ws))) h

@@ -1,11 +1,12 @@
 -- The stepping receiver is the reader: a buffer's whole symbols pushed in order until the record
 -- ends, finished if it doesn't, and taken into 127 bytes, come to what the reader answers with a
 -- report buffer of 127 bytes; calls that answered 10, 11 or 12 in between make no difference. For
--- every mode number. Assumes nothing.
+-- every mode number. So demand 3 is so of take, too. Assumes nothing.
 use mathlib.Core.Path.{_≡_, refl, sym, ap, _∙_, subst}
 use mathlib.Core.Bool.{true, false, not}
 use mathlib.Core.List.{List, [], _∷_}
-use Prim.Native.Nat.{ℕ, zero, suc, _+_, _<_}
+use mathlib.Core.Logic.{_↔_}
+use Prim.Native.Nat.{ℕ, zero, suc, _+_, _≤_, _<_}
 use native.Mathlib.Omega.{arith}
 use lib.Dec.{eqb}
 use lib.ListN.{length, getD, drop, drop-of-length-le}
@@ -23,9 +24,11 @@ use Rattle.reader.proofs.Windows.{whole-sized}
 use Rattle.receiver.specs.declared.Receiver.{Receiver}
 use Rattle.receiver.specs.declared.Step.{Step}
 use Rattle.receiver.specs.Record.{startOf, forged, tookSymbol, pushOf, finishOf, roomFor, takeOf}
+use Rattle.demands.specs.Words.{Report, NearOne, success}
 use Rattle.demands.specs.Calls.{Call, pushing, called, after, stray, counted, inOrder}
 use Rattle.receiver.proofs.Stepping.{Going, Gone, start-going, start-gone, honest, going-open, finish-gone, push-going}
 use Rattle.demands.proofs.Demand3.{answer-place, answer-room}
+use Rattle.demands.proofs.Reader.{reads-report}
 use Rattle.demands.proofs.Given.{among-pass, ofSymbol, took-given}
 use Rattle.demands.proofs.Stray.{no-difference}
 
@@ -166,3 +169,12 @@ module _ (mode : ℕ) (chips : List ℕ) where
         → takeOf (after begun xs) buffer ≡ readOf mode chips buffer
     steps-read xs e =
         ap (λ (c : Receiver). takeOf c buffer) (sym (no-difference begun xs) ∙ ap (after begun) e) ∙ in-order-reads
+
+    -- So take tells a report and a count just where the chips are near one of the report's frames.
+    pub steps-report : known mode ≡ true → (xs : List Call) → counted begun xs ≡ inOrder begun (whole (radioOf mode) chips)
+        → (report : List ℕ) (count : ℕ) → length report ≤ 127
+        → (takeOf (after begun xs) buffer ≡ success mode buffer report count) ↔ (Report report × NearOne (radioOf mode) chips report count)
+    steps-report k xs e report count h =
+        let s = steps-read xs e in
+        let q = reads-report mode k chips buffer report count (rw l h) in
+        (λ o. q .0 (sym s ∙ o), λ n. s ∙ q .1 n)

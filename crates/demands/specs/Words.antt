@@ -1,35 +1,62 @@
--- The words that the demands are stated with: a report; that the reading answers a report and a
--- count; chips that are a report's frame but for a few in each symbol; the sum of differences; and
--- the reader's outcome that tells a report.
+-- The words that the demands are stated with: a report and its frames; that the reading answers a
+-- report and a count; chips that are one of those frames but for a few in each symbol; the sum of
+-- differences; and the reader's outcome that tells a report.
 use mathlib.Core.Path.{_≡_}
 use mathlib.Core.Bool.{false}
-use mathlib.Core.List.{List, _++_}
-use Prim.Native.Nat.{ℕ, zero, suc, _+_, _*_, _≤_, _<_}
+use mathlib.Core.Logic.{_⊎_}
+use mathlib.Core.List.{List, [], _∷_, _++_, map}
+use Prim.Native.Nat.{ℕ, zero, suc, _+_, _-_, _*_, _/_, _≤_, _<_}
 use lib.ListN.{length, getD, take, drop}
-use Rattle.codes.specs.Numbers.{DONE, NOROOM, PREAMBLE, BADSTART, RESERVED}
+use Rattle.codes.specs.Numbers.{DONE, NOROOM, PREAMBLE, BADSTART}
 use Rattle.codes.specs.Chips.{distance, bad}
 use Rattle.codes.specs.Radio.{Radio, radioOf}
 use Rattle.frame.specs.Outcome.{Outcome, outcome}
-use Rattle.frame.specs.Frame.{symbols, frame}
+use Rattle.codes.specs.Symbol.{symbolOf}
+use Rattle.frame.specs.Frame.{symbols, frameWith}
 use Rattle.reader.specs.declared.Reading.{Reading}
-use Rattle.reader.specs.Order.{done, window, reading}
+use Rattle.reader.specs.Received.{received, octetAt}
+use Rattle.reader.specs.Order.{done, window, whole, values, reading}
 
 -- a report: at most 127 numbers below 256
 pub record Report (report : List ℕ) : Type 0 where
   pub short : length report ≤ 127
   pub octets : (i : ℕ) → i < length report → getD report i 0 < 256
 
+-- A report's frames: as it is written, and with the reserved bit set.
+abbrev pub frames : Radio → List ℕ → List (List ℕ)
+frames r report = frameWith r 0 report ∷ frameWith r 1 report ∷ []
+
+-- one of a list
+abbrev pub OneOf : List (List ℕ) → List ℕ → Type 0
+OneOf [] x = ⊥
+OneOf (y ∷ ys) x = (x ≡ y) ⊎ OneOf ys x
+
+-- that one of a report's frames which the length octet's symbols in the chips read as: octet 5 of
+-- their raw symbols has its reserved bit
+abbrev pub frameRead : Radio → List ℕ → List ℕ → List ℕ
+frameRead r chips report = frameWith r (octetAt r 5 (received r (values (map (symbolOf r) (whole r chips)))) / 128) report
+
+-- chips, each of them inverted
+abbrev pub inverse : List ℕ → List ℕ
+inverse chips = map (λ (c : ℕ). 1 - c) chips
+
 -- with so much room, the reading of the chips answers this report and this count
 abbrev pub Answers : Radio → ℕ → List ℕ → List ℕ → ℕ → Type 0
 Answers r room chips report count = reading r room chips ≡ done (length (symbols r report)) report count
 
--- The chips begin with chips 0 or 1 whose distance from the report's frame is at most the limit in
--- each symbol's window, and count is the distance of the whole prefix from the whole frame.
-pub record Near (r : Radio) (chips report : List ℕ) (count : ℕ) : Type 0 where
-  pub long : length (frame r report) ≤ length chips
-  pub chip : bad (take (length (frame r report)) chips) ≡ false
-  pub near : (s : ℕ) → s < length (symbols r report) → distance (window r chips s) (window r (frame r report) s) ≤ r .limit
-  pub sum : count ≡ distance (take (length (frame r report)) chips) (frame r report)
+-- The chips begin with chips 0 or 1 whose distance from a frame is at most the limit in each
+-- symbol's window, and count is the distance of the whole prefix from the whole frame.
+pub record Near (r : Radio) (chips frame : List ℕ) (count : ℕ) : Type 0 where
+  pub long : length frame ≤ length chips
+  pub chip : bad (take (length frame) chips) ≡ false
+  pub near : (s : ℕ) → suc s * r .size ≤ length frame → distance (window r chips s) (window r frame s) ≤ r .limit
+  pub sum : count ≡ distance (take (length frame) chips) frame
+
+-- they do so with one of the report's frames
+pub record NearOne (r : Radio) (chips report : List ℕ) (count : ℕ) : Type 0 where
+  pub frame : List ℕ
+  pub member : OneOf (frames r report) frame
+  pub near : Near r chips frame count
 
 -- the sum of the distances of the windows of the first k symbols
 unfoldable pub differences : Radio → List ℕ → List ℕ → ℕ → ℕ
@@ -44,10 +71,8 @@ success mode buffer report count =
     (report ++ drop (length report) buffer)
 
 -- A number given back stands where the reading order lets it, in a frame with so many symbols an
--- octet: 7 in the preamble, 8 on the last symbol of the start octet, 9 and 3 on that of the
--- length octet.
+-- octet: 7 in the preamble, 8 on the last symbol of the start octet, 3 on that of the length octet.
 pub record Placed (per x place : ℕ) : Type 0 where
   pub preamble : x ≡ PREAMBLE → place < 4 * per
   pub start : x ≡ BADSTART → suc place ≡ 5 * per
-  pub reserved : x ≡ RESERVED → suc place ≡ 6 * per
   pub room : x ≡ NOROOM → suc place ≡ 6 * per

@@ -11,7 +11,7 @@ use Rattle.codes.specs.Radio.{Radio, word, bpsk, oqpsk, lowband}
 use Rattle.codes.specs.Radio.{bpskWords, oqpskWord, oqpskWords, lowbandWord, lowbandWords, turnedWords, turns, turned, oddInverted}
 use Rattle.codes.specs.Symbol.{refused, reads, within, first, valued, symbolOf}
 use Rattle.codes.proofs.Facts.{oqpsk-flat, lowband-flat}
-use Rattle.frame.specs.Frame.{digits, raws, encode, symbols, frame}
+use Rattle.frame.specs.Frame.{octets, octetsWith, digits, raws, encode, symbols, symbolsWith, frame}
 use Rattle.frame.proofs.Count.{bpsk-chips, oqpsk-chips, lowband-chips}
 
 -- chips with the first k inverted
@@ -74,7 +74,7 @@ lost-flat r z o (suc zero) h = o
 lost-flat r z o (suc (suc c)) h = absurd (omega arith)
 
 pub bench : BenchSheet
-unfolding distance bad within first valued symbolOf bpskWords oqpskWords turnedWords turns turned oddInverted oqpskWord digits raws encode symbols
+unfolding distance bad within first valued symbolOf bpskWords oqpskWords turnedWords turns turned oddInverted oqpskWord digits raws encode symbolsWith
 bench =
     record {
       A = refl;
@@ -88,11 +88,11 @@ bench =
       I = refl;
       J = (refl, refl);
       K = λ report. (refl, refl);
-      L = λ report h. (omega (arith, oqpsk-chips report), omega (arith, bpsk-chips report));
+      L = λ report h. (omega (arith, oqpsk-chips 0 report), omega (arith, bpsk-chips 0 report));
     }
 
 pub lowband-bench : LowbandSheet
-unfolding distance bad within first valued symbolOf lowbandWords turnedWords turns turned oddInverted lowbandWord digits raws encode symbols
+unfolding distance bad within first valued symbolOf lowbandWords turnedWords turns turned oddInverted lowbandWord digits raws encode symbolsWith
 lowband-bench =
     record {
       A = refl;
@@ -102,5 +102,12 @@ lowband-bench =
       G = refl;
       H = refl;
       K = λ report. refl;
-      L = λ report h. omega (arith, lowband-chips report);
+      L = λ report h. omega (arith, lowband-chips 0 report);
     }
+
+-- The octets of a frame in numerals: of two octets as they are written, and with the reserved bit
+-- set; of none, with it.
+pub octets-sheet : (octets (1 ∷ 2 ∷ []) ≡ 0 ∷ 0 ∷ 0 ∷ 0 ∷ 0xA7 ∷ 0x02 ∷ 1 ∷ 2 ∷ [])
+    × (octetsWith 1 (1 ∷ 2 ∷ []) ≡ 0 ∷ 0 ∷ 0 ∷ 0 ∷ 0xA7 ∷ 0x82 ∷ 1 ∷ 2 ∷ [])
+    × (octetsWith 1 [] ≡ 0 ∷ 0 ∷ 0 ∷ 0 ∷ 0xA7 ∷ 0x80 ∷ [])
+octets-sheet = (refl, refl, refl)

@@ -6,7 +6,7 @@ use Prim.Native.Nat.{ℕ, zero, suc, _<_}
 use native.Mathlib.Omega.{arith}
 use lib.ListN.{length, getD}
 use Rattle.codes.specs.Radio.{Radio}
-use Rattle.frame.specs.Frame.{octets, raws, sent, encode, symbols}
+use Rattle.frame.specs.Frame.{octetsWith, raws, sent, encode, symbolsWith}
 
 module _ (r : Radio) where
   pub encode-long : (last : ℕ) (bs : List ℕ) → length (encode r last bs) ≡ length bs
@@ -27,11 +27,14 @@ module _ (r : Radio) where
   encode-first last [] h = absurd (omega arith)
   encode-first last (b ∷ bs) h = refl
 
-  pub symbols-next : (report : List ℕ) (j : ℕ) → suc j < length (raws r (octets report))
-      → getD (symbols r report) (suc j) 0 ≡ sent r (getD (symbols r report) j 0) (getD (raws r (octets report)) (suc j) 0)
-  unfolding symbols
-  symbols-next report j h = encode-next 0 (raws r (octets report)) j h
+  module _ (bit : ℕ) (report : List ℕ) where
+    abbrev all : List ℕ
+    all = raws r (octetsWith bit report)
 
-  pub symbols-first : (report : List ℕ) → 0 < length (raws r (octets report)) → getD (symbols r report) 0 0 ≡ sent r 0 (getD (raws r (octets report)) 0 0)
-  unfolding symbols
-  symbols-first report h = encode-first 0 (raws r (octets report)) h
+    pub symbols-next : (j : ℕ) → suc j < length all → getD (symbolsWith r bit report) (suc j) 0 ≡ sent r (getD (symbolsWith r bit report) j 0) (getD all (suc j) 0)
+    unfolding symbolsWith
+    symbols-next j h = encode-next 0 all j h
+
+    pub symbols-first : 0 < length all → getD (symbolsWith r bit report) 0 0 ≡ sent r 0 (getD all 0 0)
+    unfolding symbolsWith
+    symbols-first h = encode-first 0 all h

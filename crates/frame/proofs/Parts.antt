@@ -9,21 +9,21 @@ use native.Mathlib.Omega.{arith}
 use lib.ListN.{length, take, drop}
 use lib.Seq.{take-at, drop-at}
 use Rattle.codes.specs.Radio.{Radio, bpsk, oqpsk, lowband}
-use Rattle.frame.specs.Frame.{startOctet, octets, perOctet, rawOf, raws, symbols}
+use Rattle.frame.specs.Frame.{startOctet, octetsWith, perOctet, rawOf, raws, symbolsWith}
 use Rattle.frame.proofs.Count.{raw-long, raws-long, symbols-long}
 
 -- the preamble is before symbol p, the start octet before s, the length octet before l, and the
 -- report after it
 pub record Parts (r : Radio) (p s l k : ℕ) : Type 0 where
-  pub preamble : (report : List ℕ) → take p (raws r (octets report)) ≡ raws r (0 ∷ 0 ∷ 0 ∷ 0 ∷ [])
-  pub start : (report : List ℕ) → take k (drop p (raws r (octets report))) ≡ rawOf r startOctet
-  pub length-octet : (report : List ℕ) → take k (drop s (raws r (octets report))) ≡ rawOf r (length report)
-  pub rest : (report : List ℕ) → drop l (raws r (octets report)) ≡ raws r report
-  pub total : (report : List ℕ) → length (symbols r report) ≡ l + k * length report
+  pub preamble : (bit : ℕ) (report : List ℕ) → take p (raws r (octetsWith bit report)) ≡ raws r (0 ∷ 0 ∷ 0 ∷ 0 ∷ [])
+  pub start : (bit : ℕ) (report : List ℕ) → take k (drop p (raws r (octetsWith bit report))) ≡ rawOf r startOctet
+  pub length-octet : (bit : ℕ) (report : List ℕ) → take k (drop s (raws r (octetsWith bit report))) ≡ rawOf r (length report + 128 * bit)
+  pub rest : (bit : ℕ) (report : List ℕ) → drop l (raws r (octetsWith bit report)) ≡ raws r report
+  pub total : (bit : ℕ) (report : List ℕ) → length (symbolsWith r bit report) ≡ l + k * length report
 
 module _ (r : Radio) where
   -- octets xs, then ys: the raw symbols of ys begin where those of xs end
-  raws-append : (xs ys : List ℕ) → raws r (xs ++ ys) ≡ raws r xs ++ raws r ys
+  pub raws-append : (xs ys : List ℕ) → raws r (xs ++ ys) ≡ raws r xs ++ raws r ys
   unfolding raws
   raws-append [] ys = refl
   raws-append (x ∷ xs) ys = rw (raws-append xs ys) (sym (append-assoc (rawOf r x) (raws r xs) (raws r ys)))
@@ -41,11 +41,13 @@ module _ (r : Radio) where
   pub parts : (p s l k : ℕ) → 4 * perOctet r ≡ p → 5 * perOctet r ≡ s → 6 * perOctet r ≡ l → perOctet r ≡ k → Parts r p s l k
   parts p s l k ep es el ek =
       record {
-        preamble = λ report. before (0 ∷ 0 ∷ 0 ∷ 0 ∷ []) (startOctet ∷ length report ∷ report) p ep;
-        start = λ report. rw (after (0 ∷ 0 ∷ 0 ∷ 0 ∷ []) (startOctet ∷ length report ∷ report) p ep, ← ek) (one startOctet (length report ∷ report));
-        length-octet = λ report. rw (after (0 ∷ 0 ∷ 0 ∷ 0 ∷ startOctet ∷ []) (length report ∷ report) s es, ← ek) (one (length report) report);
-        rest = λ report. after (0 ∷ 0 ∷ 0 ∷ 0 ∷ startOctet ∷ length report ∷ []) report l el;
-        total = λ report. symbols-long r report ∙ omega (
+        preamble = λ bit report. before (0 ∷ 0 ∷ 0 ∷ 0 ∷ []) (startOctet ∷ (length report + 128 * bit) ∷ report) p ep;
+        start = λ bit report. rw (after (0 ∷ 0 ∷ 0 ∷ 0 ∷ []) (startOctet ∷ (length report + 128 * bit) ∷ report) p ep, ← ek)
+            (one startOctet ((length report + 128 * bit) ∷ report));
+        length-octet = λ bit report. rw (after (0 ∷ 0 ∷ 0 ∷ 0 ∷ startOctet ∷ []) ((length report + 128 * bit) ∷ report) s es, ← ek)
+            (one (length report + 128 * bit) report);
+        rest = λ bit report. after (0 ∷ 0 ∷ 0 ∷ 0 ∷ startOctet ∷ (length report + 128 * bit) ∷ []) report l el;
+        total = λ bit report. symbols-long r bit report ∙ omega (
           arith,
           add-mul 6 (length report) (perOctet r),
           mul-comm (length report) (perOctet r),

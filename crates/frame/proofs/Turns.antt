@@ -19,12 +19,12 @@ use Rattle.frame.proofs.Count.{raw-below, sent-below, word-long, octet-
 use Rattle.frame.proofs.Below.{Below}
 
 module _ (r : Radio) where
-  encode-append : (last : ℕ) (xs ys : List ℕ) → encode r last (xs ++ ys) ≡ encode r last xs ++ encode r (lastSent r last xs) ys
+  pub encode-append : (last : ℕ) (xs ys : List ℕ) → encode r last (xs ++ ys) ≡ encode r last xs ++ encode r (lastSent r last xs) ys
   unfolding encode lastSent
   encode-append last [] ys = refl
   encode-append last (x ∷ xs) ys = ap (λ (l : List ℕ). sent r last x ∷ l) (encode-append (sent r last x) xs ys)
 
-  chips-append : (us vs : List ℕ) → chipsOf r (us ++ vs) ≡ chipsOf r us ++ chipsOf r vs
+  pub chips-append : (us vs : List ℕ) → chipsOf r (us ++ vs) ≡ chipsOf r us ++ chipsOf r vs
   unfolding chipsOf
   chips-append [] vs = refl
   chips-append (u ∷ us) vs = rw (chips-append us vs) (sym (append-assoc (word r u) (chipsOf r us) (chipsOf r vs)))

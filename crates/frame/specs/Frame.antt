@@ -1,6 +1,6 @@
 -- A report's frame: octets, symbols, chips (the scope, "The three radios" and "The frame"), for
 -- any radio.
-use Prim.Native.Nat.{ℕ, zero, suc, _+_, _/_, _%_, _^_}
+use Prim.Native.Nat.{ℕ, zero, suc, _+_, _*_, _/_, _%_, _^_}
 use mathlib.Core.List.{List, [], _∷_, _++_}
 use lib.ListN.{length}
 use Rattle.codes.specs.Chips.{pick}
@@ -11,9 +11,9 @@ abbrev pub startOctet : ℕ
 startOctet = 0xA7
 
 -- Four octets of zero, one start octet, one length octet, then the report. The length octet has n
--- in its low seven bits; its top bit is written as 0.
-abbrev pub octets : List ℕ → List ℕ
-octets report = 0 ∷ 0 ∷ 0 ∷ 0 ∷ startOctet ∷ length report ∷ report
+-- in its low seven bits; its top bit, which is reserved, is the one given.
+abbrev pub octetsWith : ℕ → List ℕ → List ℕ
+octetsWith bit report = 0 ∷ 0 ∷ 0 ∷ 0 ∷ startOctet ∷ (length report + 128 * bit) ∷ report
 
 -- symbols of an octet
 abbrev pub perOctet : Radio → ℕ
@@ -45,14 +45,24 @@ encode r last (b ∷ bs) = sent r last b ∷ encode r (sent r last b) bs
 
 -- the symbols of a report's frame: before the first one stands 0, and the chain runs through the
 -- whole frame
-unfoldable pub symbols : Radio → List ℕ → List ℕ
-symbols r report = encode r 0 (raws r (octets report))
+unfoldable pub symbolsWith : Radio → ℕ → List ℕ → List ℕ
+symbolsWith r bit report = encode r 0 (raws r (octetsWith bit report))
 
 -- each symbol chooses its word
 unfoldable pub chipsOf : Radio → List ℕ → List ℕ
 chipsOf r [] = []
 chipsOf r (v ∷ vs) = word r v ++ chipsOf r vs
 
--- the frame of a report
-unfoldable pub frame : Radio → List ℕ → List ℕ
-frame r report = chipsOf r (symbols r report)
+-- the frame of a report, with the reserved bit so
+unfoldable pub frameWith : Radio → ℕ → List ℕ → List ℕ
+frameWith r bit report = chipsOf r (symbolsWith r bit report)
+
+-- The reserved bit is written as 0.
+abbrev pub octets : List ℕ → List ℕ
+octets report = octetsWith 0 report
+
+abbrev pub symbols : Radio → List ℕ → List ℕ
+symbols r report = symbolsWith r 0 report
+
+abbrev pub frame : Radio → List ℕ → List ℕ
+frame r report = frameWith r 0 report

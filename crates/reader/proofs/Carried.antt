@@ -3,7 +3,7 @@
 use mathlib.Core.Path.{_≡_, refl, sym, ap, _∙_}
 use mathlib.Core.Bool.{true}
 use mathlib.Core.List.{List, [], _∷_, _++_, map-append}
-use Prim.Native.Nat.{ℕ, suc, _+_, _*_, _^_, _≤_, _<_}
+use Prim.Native.Nat.{ℕ, suc, _+_, _*_, _%_, _^_, _≤_, _<_}
 use native.Mathlib.Nat.{mod-eq-of-lt}
 use native.Mathlib.Omega.{arith}
 use lib.ListN.{length, getD, length-append, length-map}
@@ -18,7 +18,7 @@ use Rattle.frame.specs.Frame.{perOctet}
 use Rattle.frame.proofs.Below.{Below, below-append}
 use Rattle.reader.specs.declared.Hand.{Hand}
 use Rattle.reader.specs.Received.{rawAfter, decode, received, octetAt}
-use Rattle.reader.specs.Order.{ends, rules, values, repaired, verdict}
+use Rattle.reader.specs.Order.{ends, rules, values, repaired, lengthIn, verdict}
 use Rattle.reader.specs.Taking.{begun, rawFrom, shifted, lengthAfter, moved}
 use Rattle.reader.proofs.Raw.{
   lastOf,
@@ -40,7 +40,7 @@ pub record Carries (r : Radio) (before : List Symbol) (h : Hand) : Type 0 where
   pub taken : h .taken ≡ length before
   pub last : h .last ≡ lastOf 0 (values before)
   pub octet : h .octet ≡ shifts r 0 (received r (values before))
-  pub late : 6 * perOctet r ≤ length before → h .length ≡ octetAt r 5 (received r (values before))
+  pub late : 6 * perOctet r ≤ length before → h .length ≡ lengthIn r (received r (values before))
   pub early : length before < 6 * perOctet r → h .length ≡ 0
   pub count : h .count ≡ repaired before
   pub below : Below (2 ^ r .bits) (values before)
@@ -124,14 +124,14 @@ module _ (r : Radio) (S : Sound r) where
     octet-ends : (k : ℕ) → ends (perOctet r) k (length before) ≡ true → octet ≡ octetAt r k bits
     octet-ends k e = octet-is ∙ last-octet r S bits k (decode-below r S 0 (values after) after-below) (bits-long ∙ eqb-true _ _ e) .0
 
-    n-late : 6 * perOctet r ≤ suc (length before) → n ≡ octetAt r 5 bits
+    n-late : 6 * perOctet r ≤ suc (length before) → n ≡ lengthIn r bits
     n-late l = rw (C .taken)
         (by-test (ends (perOctet r) 5 (length before))
-        (λ e. rw e (octet-ends 5 e))
+        (λ e. rw e (ap (λ (x : ℕ). x % 128) (octet-ends 5 e)))
         (λ e.
         let m : 6 * perOctet r ≤ length before = omega (arith, eqb-false (suc (length before)) (6 * perOctet r) e) in
         let b : 6 * perOctet r ≤ length (received r (values before)) = rw (received-long r before) m in
-        rw e (C .late m ∙ sym (ap (octetAt r 5) bits-snoc ∙ octet-stays r 5 (received r (values before)) (raw ∷ []) b))))
+        rw e (C .late m ∙ sym (ap (lengthIn r) bits-snoc ∙ ap (λ (x : ℕ). x % 128) (octet-stays r 5 (received r (values before)) (raw ∷ []) b)))))
 
     n-early : suc (length before) < 6 * perOctet r → n ≡ 0
     n-early l = rw (C .taken, ne-eqb (suc (length before)) (6 * perOctet r) (λ e. omega arith)) (C .early (omega arith))
@@ -145,7 +145,7 @@ module _ (r : Radio) (S : Sound r) where
         ∙ sym raw-is in
         rw (g, C .taken)
         (rules-same (perOctet r) room (length before) (rawFrom r (h .last) v) octet (octetAt r 4 bits)
-        (lengthAfter (perOctet r) (length before) (h .length) octet) (octetAt r 5 bits) (octet-ends 4) (λ l. rw (C .taken) at (n-late l)))
+        (lengthAfter (perOctet r) (length before) (h .length) octet) (lengthIn r bits) (octet-ends 4) (λ l. rw (C .taken) at (n-late l)))
 
     -- and one symbol more is carried
     pub carries-more : suc (length before) < 2 ^ 32 → repaired before + d < 2 ^ 32 → (x : ℕ) → Carries r after (moved h x n d v octet)

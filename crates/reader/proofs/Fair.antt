@@ -8,7 +8,7 @@ use lib.ListN.{length}
 use lib.Dec.{eqb, ltb}
 use borrow.Author.Tests.{eqb-false}
 use Rattle.codes.specs.declared.Symbol.{Symbol}
-use Rattle.codes.specs.Numbers.{DONE, BADMODE, NOROOM, RUNOUT, NOCHIP, LOST, PREAMBLE, BADSTART, RESERVED, MORE}
+use Rattle.codes.specs.Numbers.{DONE, BADMODE, NOROOM, RUNOUT, NOCHIP, LOST, PREAMBLE, BADSTART, MORE}
 use Rattle.codes.specs.Chips.{bad, among}
 use Rattle.codes.specs.Radio.{Radio, known, radioOf}
 use Rattle.codes.specs.Symbol.{valued, symbolOf}
@@ -20,7 +20,7 @@ use Rattle.reader.specs.Received.{received}
 
 -- those of the reading order
 abbrev pub refusals : List ℕ
-refusals = NOROOM ∷ RUNOUT ∷ NOCHIP ∷ LOST ∷ PREAMBLE ∷ BADSTART ∷ RESERVED ∷ []
+refusals = NOROOM ∷ RUNOUT ∷ NOCHIP ∷ LOST ∷ PREAMBLE ∷ BADSTART ∷ []
 
 -- an answer is done, or refuses with one of these
 abbrev pub Fair : Answer → Type 0
@@ -43,9 +43,8 @@ unfolding rules
 rules-fair per room s raw start n =
     by-pick P (both (ltb s (4 * per)) (not (eqb raw 0))) _ _ (λ _ m d. refl)
     (λ _. by-pick P (both (ends per 4 s) (not (eqb start startOctet))) _ _ (λ _ m d. refl)
-    (λ _. by-pick P (both (ends per 5 s) (ltb 127 n)) _ _ (λ _ m d. refl)
     (λ _. by-pick P (both (ends per 5 s) (ltb room n)) _ _ (λ _ m d. refl)
-    (λ _. by-pick P (ends per (5 + n) s) _ _ (λ _ m d. absurd (d refl)) (λ _ m d. absurd (m refl))))))
+    (λ _. by-pick P (ends per (5 + n) s) _ _ (λ _ m d. absurd (d refl)) (λ _ m d. absurd (m refl)))))
   where
     P : ℕ → Type 0
     P z = (z ≡ MORE → ⊥) → (z ≡ DONE → ⊥) → among z refusals ≡ true

@@ -8,7 +8,7 @@ use native.Mathlib.Nat.{mul-le-mul-right, mul-mod-left, le-add-right}
 use native.Mathlib.Omega.{arith}
 use lib.Dec.{eqb, leb, ltb}
 use borrow.Author.Tests.{lt-ltb, le-ltb, eq-eqb, ne-eqb, eqb-true, leb-true, leb-false, ltb-true, ltb-false, not-false}
-use Rattle.codes.specs.Numbers.{DONE, NOROOM, PREAMBLE, BADSTART, RESERVED, MORE}
+use Rattle.codes.specs.Numbers.{DONE, NOROOM, PREAMBLE, BADSTART, MORE}
 use Rattle.codes.specs.Chips.{pick}
 use Rattle.codes.proofs.Tests.{by-test, not-both}
 use Rattle.frame.specs.Frame.{startOctet}
@@ -66,6 +66,14 @@ module _ (per s : ℕ) (i : (s + 1) % per ≡ 0 → ⊥) where
   pub inside-length : (n octet : ℕ) → n ≡ lengthAfter per s n octet
   inside-length n octet = rw (ends-none 5)
 
+-- the n that a length octet brings is at most 127
+pub length-few : (per s n octet : ℕ) → ends per 5 s ≡ true → lengthAfter per s n octet ≤ 127
+length-few per s n octet e = rw e (omega arith)
+
+-- with room for every report the test of room passes an n of at most 127
+pub roomy : (per s n : ℕ) → (ends per 5 s ≡ true → n ≤ 127) → both (ends per 5 s) (ltb 127 n) ≡ false
+roomy per s n q = neither (ends per 5 s) (ltb 127 n) (λ t. le-ltb 127 n (q t))
+
 -- the tests in order, with room for every report
 module _ (per s raw start n : ℕ) where
   module _ (a : both (ltb s (4 * per)) (not (eqb raw 0)) ≡ false) where
@@ -73,19 +81,14 @@ module _ (per s raw start n : ℕ) where
     unfolding rules
     rules-8 b = rw (a, b)
 
-    module _ (b : both (ends per 4 s) (not (eqb start startOctet)) ≡ false) where
-      pub rules-9 : both (ends per 5 s) (ltb 127 n) ≡ true → rules per 127 s raw start n ≡ RESERVED
+    module _ (b : both (ends per 4 s) (not (eqb start startOctet)) ≡ false) (q : ends per 5 s ≡ true → n ≤ 127) where
+      pub rules-done : ends per (5 + n) s ≡ true → rules per 127 s raw start n ≡ DONE
       unfolding rules
-      rules-9 d = rw (a, b, d)
+      rules-done e = rw (a, b, roomy per s n q, e)
 
-      module _ (d : both (ends per 5 s) (ltb 127 n) ≡ false) where
-        pub rules-done : ends per (5 + n) s ≡ true → rules per 127 s raw start n ≡ DONE
-        unfolding rules
-        rules-done e = rw (a, b, d, e)
-
-        pub rules-more : ends per (5 + n) s ≡ false → rules per 127 s raw start n ≡ MORE
-        unfolding rules
-        rules-more e = rw (a, b, d, e)
+      pub rules-more : ends per (5 + n) s ≡ false → rules per 127 s raw start n ≡ MORE
+      unfolding rules
+      rules-more e = rw (a, b, roomy per s n q, e)
 
 -- The start octet matters only on its last symbol, the length octet only from its last symbol on.
 module _ (per room s raw : ℕ) where
@@ -114,7 +117,7 @@ both-true false b e = not-both false e refl
 
 -- The reader's test of room, after the rules with room for every report, is the rules with
 -- its room.
-module _ (per room s raw o n d v : ℕ) (h : Hand) (l : h .length ≤ room) (m : ends per 5 s ≡ false → n ≤ room) where
+module _ (per room s raw o n d v : ℕ) (h : Hand) (l : h .length ≤ room) (m : ends per 5 s ≡ false → n ≤ room) (q : ends per 5 s ≡ true → n ≤ 127) where
   abbrev next : ℕ → Hand
   next x = onward x (moved h x n d v o) (stopped x h)
 
@@ -130,17 +133,15 @@ module _ (per room s raw o n d v : ℕ) (h : Hand) (l : h .length ≤ room) (m :
   rules-room =
       by-test (both (ltb s (4 * per)) (not (eqb raw 0))) (λ a. rw a (kept PREAMBLE))
       (λ a. by-test (both (ends per 4 s) (not (eqb o startOctet))) (λ b. rw (a, b) (kept BADSTART))
-      (λ b. by-test (both (ends per 5 s) (ltb 127 n)) (λ c. rw (a, b, c) (kept RESERVED))
-      (λ c. by-test (both (ends per 5 s) (ltb room n))
+      (λ b. let c = roomy per s n q in by-test (both (ends per 5 s) (ltb room n))
       (λ e. by-test (ends per (5 + n) s) (λ f. rw (a, b, c, e, f, both-true (ends per 5 s) (ltb room n) e))
       (λ f. rw (a, b, c, e, f, both-true (ends per 5 s) (ltb room n) e)))
-      (λ e. by-test (ends per (5 + n) s) (λ f. rw (a, b, c, e, f, le-ltb room n (fits e))) (λ f. rw (a, b, c, e, f, le-ltb room n (fits e)))))))
+      (λ e. by-test (ends per (5 + n) s) (λ f. rw (a, b, c, e, f, le-ltb room n (fits e))) (λ f. rw (a, b, c, e, f, le-ltb room n (fits e))))))
 
 -- nothing is wrong at symbol s
 pub record Clear (per room s raw start n : ℕ) : Type 0 where
   pub preamble : s < 4 * per → raw ≡ 0
   pub started : suc s ≡ 5 * per → start ≡ startOctet
-  pub reserved : suc s ≡ 6 * per → n ≤ 127
   pub fits : suc s ≡ 6 * per → n ≤ room
 
 -- a refusal is neither number of a reading that goes on or ends
@@ -159,7 +160,6 @@ module _ (per room s raw start n : ℕ) where
       rw (
         neither (ltb s (4 * per)) (not (eqb raw 0)) (λ t. rw (eq-eqb raw 0 (C .preamble (ltb-true _ _ t)))),
         neither (ends per 4 s) (not (eqb start startOctet)) (λ t. rw (eq-eqb start startOctet (C .started (eqb-true _ _ t)))),
-        neither (ends per 5 s) (ltb 127 n) (λ t. le-ltb 127 n (C .reserved (eqb-true _ _ t))),
         neither (ends per 5 s) (ltb room n) (λ t. le-ltb room n (C .fits (eqb-true _ _ t))),
         last-test,
       )
@@ -169,21 +169,19 @@ module _ (per room s raw start n : ℕ) where
   unfolding rules
   rules-clear x g e =
       go (both (ltb s (4 * per)) (not (eqb raw 0))) refl (both (ends per 4 s) (not (eqb start startOctet)))
-      refl (both (ends per 5 s) (ltb 127 n)) refl (both (ends per 5 s) (ltb room n)) refl e
+      refl (both (ends per 5 s) (ltb room n)) refl e
     where
       go : (a : Bool) → both (ltb s (4 * per)) (not (eqb raw 0)) ≡ a → (b : Bool) → both (ends per 4 s) (not (eqb start startOctet)) ≡ b
-          → (c : Bool) → both (ends per 5 s) (ltb 127 n) ≡ c → (d : Bool) → both (ends per 5 s) (ltb room n) ≡ d
-          → pick a PREAMBLE (pick b BADSTART (pick c RESERVED (pick d NOROOM (pick (ends per (5 + n) s) DONE MORE)))) ≡ x → Clear per room s raw start n
-      go true _ b _ c _ d _ e = unsaid PREAMBLE x e g (omega arith) (omega arith)
-      go false p true _ c _ d _ e = unsaid BADSTART x e g (omega arith) (omega arith)
-      go false p false q true _ d _ e = unsaid RESERVED x e g (omega arith) (omega arith)
-      go false p false q false u true _ e = unsaid NOROOM x e g (omega arith) (omega arith)
-      go false p false q false u false v e =
+          → (c : Bool) → both (ends per 5 s) (ltb room n) ≡ c
+          → pick a PREAMBLE (pick b BADSTART (pick c NOROOM (pick (ends per (5 + n) s) DONE MORE))) ≡ x → Clear per room s raw start n
+      go true _ b _ c _ e = unsaid PREAMBLE x e g (omega arith) (omega arith)
+      go false p true _ c _ e = unsaid BADSTART x e g (omega arith) (omega arith)
+      go false p false q true _ e = unsaid NOROOM x e g (omega arith) (omega arith)
+      go false p false q false u e =
           record {
             preamble = λ h. eqb-true raw 0 (not-false _ (second _ _ p (lt-ltb s (4 * per) h)));
             started = λ h. eqb-true start startOctet (not-false _ (second _ _ q (eq-eqb (suc s) (5 * per) h)));
-            reserved = λ h. ltb-false 127 n (second _ _ u (eq-eqb (suc s) (6 * per) h));
-            fits = λ h. ltb-false room n (second _ _ v (eq-eqb (suc s) (6 * per) h));
+            fits = λ h. ltb-false room n (second _ _ u (eq-eqb (suc s) (6 * per) h));
           }
 
   -- and it is DONE only on the report's last symbol

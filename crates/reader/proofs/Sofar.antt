@@ -22,7 +22,7 @@ use Rattle.codes.proofs.Unique.{nochip-of}
 use Rattle.frame.specs.Frame.{perOctet}
 use Rattle.reader.specs.declared.Hand.{Hand}
 use Rattle.reader.specs.Received.{received, octetAt, octetsFrom}
-use Rattle.reader.specs.Order.{Answer, refused, done, values, reportIn, taking, readingFrom}
+use Rattle.reader.specs.Order.{Answer, refused, done, values, lengthIn, reportIn, taking, readingFrom}
 use Rattle.reader.specs.Taking.{begun, stopped, advanced, onward, roomed, keptIn, handed, Tells}
 use Rattle.reader.proofs.Windows.{seen, seen-front, seen-next, rest, rest-more, rest-out}
 use Rattle.reader.proofs.Steps.{goes}
@@ -138,7 +138,7 @@ module _ (r : Radio) (S : Sound r) (room : ℕ) (ws : List (List ℕ)) (octets :
           let a : length after ≡ suc (length before) = length-append before (x ∷ []) ∙ omega arith in
           let t = o .carries .taken in
           let e : (6 + g .length) * perOctet r ≤ length after = omega (arith, o .all .total) in
-          let n : g .length ≡ octetAt r 5 bits = o .carries .late (omega (arith, mul-le-mul-right (perOctet r) (le-add-right 6 (g .length)))) in
+          let n : g .length ≡ lengthIn r bits = o .carries .late (omega (arith, mul-le-mul-right (perOctet r) (le-add-right 6 (g .length)))) in
           let s : take (g .length) kept ≡ reportIn r bits =
           gathered-report r S after kept (g .length) (gathers (inr (o .number)) (o .carries)) long-kept (o .all .few) e
           ∙ ap (λ (j : ℕ). octetsFrom r 6 j bits) n in

@@ -24,7 +24,7 @@ use Rattle.reader.specs.Order.{Answer, done, ends, rules, values, repair
 use Rattle.reader.specs.Order as order
 use Rattle.reader.specs.Taking.{begun, stopped, rawFrom, shifted, lengthAfter, moved, onward, advanced, roomed, Complete}
 use Rattle.reader.proofs.Raw.{per-positive}
-use Rattle.reader.proofs.Rules.{Clear, rules-clear, rules-last, rules-before, rules-room}
+use Rattle.reader.proofs.Rules.{Clear, length-few, rules-clear, rules-last, rules-before, rules-room}
 use Rattle.reader.proofs.Steps.{goes, stops}
 use Rattle.reader.proofs.Carried.{Carries, verdict-is, carries-more}
 
@@ -83,7 +83,8 @@ room-for-any r h x f =
     let octet = shifted r (h .octet) raw in
     by-test (eqb (x .number) DONE)
     (λ a. rw a (rules-room (perOctet r) 127 (h .taken) raw octet
-    (lengthAfter (perOctet r) (h .taken) (h .length) octet) (x .distance) (x .value) h f (λ e. rw e f)))
+    (lengthAfter (perOctet r) (h .taken) (h .length) octet) (x .distance) (x .value) h f (λ e. rw e f)
+    (length-few (perOctet r) (h .taken) (h .length) octet)))
     (λ a. rw (a, le-ltb 127 (h .length) f))
 
 -- no symbol is answered 13
@@ -120,13 +121,14 @@ module _ (r : Radio) (S : Sound r) (low : r .limit ≤ 255) (room : ℕ) (before
     unfolding advanced
     found-hand =
         rules-room (perOctet r) room (h .taken) (rawFrom r (h .last) v) octet n d v h (O .fits) (λ e. rw e (O .fits))
+        (length-few (perOctet r) (h .taken) (h .length) octet)
         ∙ ap (λ (y : ℕ). onward y (moved h y n d v octet) (stopped y h)) (verdict-is r S before h C v d lv room)
 
     -- n has room, on the last symbol of the length octet by the rules, else as before
     n-fits : Clear (perOctet r) room (h .taken) (rawFrom r (h .last) v) octet n → (n ≤ room) × (n ≤ 127)
     n-fits p =
         by-test (ends (perOctet r) 5 (h .taken))
-        (λ e. (p .fits (eqb-true _ _ e), p .reserved (eqb-true _ _ e)))
+        (λ e. (p .fits (eqb-true _ _ e), length-few (perOctet r) (h .taken) (h .length) octet e))
         (λ e. (rw e (O .fits), rw e (O .few)))
 
     -- this symbol is one of the frame's

@@ -1,12 +1,12 @@
 -- The reading order (document 01, "Reading order"), for any radio. Whatever it needs at a symbol it
 -- reads off the symbols up to it, so it has no state. Rule 1 is the first line of `readingFrom`,
 -- rules 2 and 3 are `symbolOf`, rules 4 to 6 `rules`; `taking` puts them in order.
-use Prim.Native.Nat.{ℕ, zero, suc, _+_, _*_, _/_}
+use Prim.Native.Nat.{ℕ, zero, suc, _+_, _*_, _/_, _%_}
 use mathlib.Core.Bool.{Bool, false, not}
 use mathlib.Core.List.{List, [], _∷_, _++_, map}
 use lib.ListN.{length, getD, take, drop}
 use lib.Dec.{eqb, ltb}
-use Rattle.codes.specs.Numbers.{DONE, NOROOM, RUNOUT, PREAMBLE, BADSTART, RESERVED, MORE}
+use Rattle.codes.specs.Numbers.{DONE, NOROOM, RUNOUT, PREAMBLE, BADSTART, MORE}
 use Rattle.codes.specs.Chips.{pick}
 use Rattle.codes.specs.Radio.{Radio}
 use Rattle.codes.specs.Symbol.{symbolOf}
@@ -41,19 +41,18 @@ whole r chips = windows r chips 0 (length chips / r .size)
 abbrev pub ends : ℕ → ℕ → ℕ → Bool
 ends per k s = eqb (suc s) (suc k * per)
 
--- Rules 4 to 6 at symbol s, over its raw symbol, the start octet and the length octet:
+-- Rules 4 to 6 at symbol s, over its raw symbol, the start octet and n:
 -- 4. In the preamble, a raw bit or symbol that isn't 0: 7.
 -- 5. On the last symbol of the start octet, an octet other than 0xA7: 8.
--- 6. On the last symbol of the length octet, top bit 1: 9; then a report buffer shorter than n: 3.
+-- 6. On the last symbol of the length octet, a report buffer shorter than n: 3.
 -- After the last symbol of the report (or of the length octet where n is 0) the reading has
 -- succeeded; before it, more is wanted.
 unfoldable pub rules : ℕ → ℕ → ℕ → ℕ → ℕ → ℕ → ℕ
 rules per room s raw start n =
     pick (both (ltb s (4 * per)) (not (eqb raw 0))) PREAMBLE
     (pick (both (ends per 4 s) (not (eqb start startOctet))) BADSTART
-    (pick (both (ends per 5 s) (ltb 127 n)) RESERVED
     (pick (both (ends per 5 s) (ltb room n)) NOROOM
-    (pick (ends per (5 + n) s) DONE MORE))))
+    (pick (ends per (5 + n) s) DONE MORE)))
 
 -- the values of symbols
 abbrev pub values : List Symbol → List ℕ
@@ -64,14 +63,19 @@ unfoldable pub repaired : List Symbol → ℕ
 repaired [] = 0
 repaired (x ∷ xs) = x .distance + repaired xs
 
--- the rules at symbol s, over the raw symbols up to and with it. Octets 4 and 5 of a frame are its
--- start octet and its length octet.
+-- Octet 5 of a frame is its length octet, which has n in its low seven bits. Its top bit, which is
+-- reserved, is not looked at.
+abbrev pub lengthIn : Radio → List ℕ → ℕ
+lengthIn r bs = octetAt r 5 bs % 128
+
+-- the rules at symbol s, over the raw symbols up to and with it. Octet 4 of a frame is its start
+-- octet.
 abbrev pub verdict : Radio → ℕ → ℕ → List ℕ → ℕ
-verdict r room s bs = rules (perOctet r) room s (getD bs s 0) (octetAt r 4 bs) (octetAt r 5 bs)
+verdict r room s bs = rules (perOctet r) room s (getD bs s 0) (octetAt r 4 bs) (lengthIn r bs)
 
 -- the report: n octets after the length octet
 abbrev pub reportIn : Radio → List ℕ → List ℕ
-reportIn r bs = octetsFrom r 6 (octetAt r 5 bs) bs
+reportIn r bs = octetsFrom r 6 (lengthIn r bs) bs
 
 -- what number x means after the symbols `read`, of which the last is in hand: the next one, or
 -- the end

@@ -43,9 +43,9 @@ shiftedBy values octet raw = octet % 256 / values + raw * (256 / values)
 abbrev pub shifted : Radio → ℕ → ℕ → ℕ
 shifted r octet raw = shiftedBy (2 ^ r .bits) octet raw
 
--- n, which the last symbol of the length octet brings
+-- n, which the last symbol of the length octet brings: its low seven bits
 abbrev pub lengthAfter : ℕ → ℕ → ℕ → ℕ → ℕ
-lengthAfter per s n octet = pick (ends per 5 s) octet n
+lengthAfter per s n octet = pick (ends per 5 s) (octet % 128) n
 
 -- rule 4, the only one for a symbol that isn't an octet's last
 abbrev pub preambled : ℕ → ℕ → ℕ → ℕ

@@ -10,7 +10,7 @@ ghost use lib.Dec.{eqb};
 ghost use Rattle.codes.specs.Radio.{known, radioOf};
 ghost use Rattle.codes.specs.Gathered.{gatheredAt, symbolIn};
 ghost use Rattle.frame.specs.Outcome.{outcome};
-ghost use Rattle.reader.specs.Order.{refused, rules, reading};
+ghost use Rattle.reader.specs.Order.{refused, ends, rules, reading};
 ghost use Rattle.reader.specs.Read.{told, readOf};
 ghost use Rattle.reader.specs.Taking.{begun, stopped, rawBy, shiftedBy, lengthAfter, preambled, moved, onward, followed};
 ghost use Rattle.reader.specs.Taking.{roomed, Roomy, storedIn, keptAt, toldBy, Tells};
@@ -149,7 +149,7 @@ fn take_symbol(mode: u32, hand: Hand, bits: u64) -> Hand
 }
 
 // What follows a match, at the symbol after those taken: 1, the symbol's own number where it isn't
-// 0, then 7, 8 and 9; 0 where the frame is complete, 13 where more is wanted. A refusal leaves the
+// 0, then 7 and 8; 0 where the frame is complete, 13 where more is wanted. A refusal leaves the
 // other numbers as they were. The hand and the symbol may hold anything: hence what is reduced or
 // wraps below.
 pub fn follow(mode: u32, hand: Hand, symbol: codes::Symbol) -> Hand
@@ -223,13 +223,14 @@ fn shift(values: u32, octet: u32, raw: u32) -> u32
     octet % 256 / values + raw * (256 / values)
 }
 
-// n, which the last symbol of the length octet brings.
+// n, which the last symbol of the length octet brings: its low seven bits. The top one is reserved,
+// and not looked at.
 fn length_after(per: usize, taken: u32, length: u32, octet: u32) -> u32
     requires { ⌜ per ≤ 8 ⌝ }
     ensures { λ r. ⌜ r ≡ lengthAfter per taken length octet ⌝ }
 {
     if taken as usize + 1 == 6 * per {
-        octet
+        octet % 128
     } else {
         length
     }
@@ -246,18 +247,16 @@ fn preamble_rule(per: usize, taken: u32, raw: u32) -> u32
     codes::MORE
 }
 
-// Rules 5 and 6 with room for every report, which are the rules of a raw symbol of 0: 8, 9, then 0
-// on the last symbol of the frame, else 13.
+// Rules 5 and 6 with room for every report, which are the rules of a raw symbol of 0: 8, then 0 on
+// the last symbol of the frame, else 13. A length octet just read gives no n above 127, so 3 is not
+// among them.
 fn octet_rules(per: usize, taken: u32, octet: u32, n: u32) -> u32
-    requires { ⌜ per ≤ 8 ⌝ }
+    requires { ⌜ (per ≤ 8) × (ends per 5 taken ≡ true → n ≤ 127) ⌝ }
     ensures { λ r. ⌜ r ≡ rules per 127 taken 0 octet n ⌝ }
 {
     let s = taken as usize;
     if s + 1 == 5 * per && octet != frame::START as u32 {
         return codes::BADSTART;
-    }
-    if s + 1 == 6 * per && 127 < n {
-        return codes::RESERVED;
     }
     if s + 1 == (6 + n as usize) * per {
         return codes::DONE;

@@ -20,7 +20,7 @@ returns c = let a = c .before .before .before .before .args in
     c .wide .ensures ∙ sym (report-octet (a .report .now) (a .j) (c .before .before .if1 .taken))
 
 returns-2 : tie.Need-returns-2
-returns-2 c = rw (c .if2 .taken)
+returns-2 c = rw (c .if2 .taken) (omega arith)
 
 cast-result : tie.Need-cast-result
 cast-result c = search needs

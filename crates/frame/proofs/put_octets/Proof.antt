@@ -4,7 +4,7 @@ use Prim.Native.Nat.{_-_}
 use native.Mathlib.Omega.{arith}
 use Rattle.codes.specs.Radio.{radioOf}
 use Rattle.codes.proofs.Facts.{sound}
-use Rattle.frame.specs.Frame.{octets, symbols}
+use Rattle.frame.specs.Frame.{octets, symbolsWith}
 use Rattle.frame.proofs.Octets.{octets-long}
 use Rattle.frame.proofs.Turns.{FrameLeft, frame-starts, frame-ends, frame-room, frame-turns}
 use Rattle.frame.proofs.put_octets.Statement.{statement}
@@ -78,7 +78,7 @@ same-length : tie.Need-same-length Inv-loop μ-loop
 same-length c = c .before .loop .inv .same
 
 returns : tie.Need-returns Inv-loop μ-loop
-unfolding symbols
+unfolding symbolsWith
 returns c = let s = c .before .before .before .before .before in
     frame-ends (radioOf (s .args .mode)) _ _ _ _ _ _ (c .before .loop .inv) (rw (octets-long (s .args .report .now)) (c .loop-test .left))
 

@@ -6,7 +6,7 @@ use borrow.Author.Tests.{eqb-false, not-true}
 use borrow.Author.Needs.{needs}
 use Rattle.codes.proofs.Modes.{phy-sizeless}
 use Rattle.frame.proofs.Modes.{some-symbols, row-sized, per-few}
-use Rattle.reader.proofs.Rules.{inside-rules, inside-length, rules-passed}
+use Rattle.reader.proofs.Rules.{inside-rules, inside-length, length-few, rules-passed}
 use Rattle.reader.proofs.Steps.{raw-few, row-raw, row-shifted, row-values, follow-no-radio, follow-refused, follow-on, follow-preamble}
 use Rattle.reader.proofs.follow.Statement.{statement}
 use Rattle.reader.proofs.follow.Tie as tie
@@ -112,7 +112,8 @@ length-after-requires c κs = let p = c .before .before .before .before .before 
 
 octet-rules-requires : tie.Need-octet-rules-requires
 octet-rules-requires c κs = let p = c .before .before .before .before .before .before .before .before .before .before .before .before .before in
-    per-few (p .before .args .mode) _ (p .phy-of .ensures)
+    let h = p .before .args .hand in
+    (per-few (p .before .args .mode) _ (p .phy-of .ensures), λ e. rw (c .length-after .ensures) (length-few _ (h .taken) (h .length) _ e))
 
 advance-requires-2 : tie.Need-advance-requires-2
 advance-requires-2 c κs = search needs

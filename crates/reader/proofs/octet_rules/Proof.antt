@@ -9,7 +9,7 @@ use Rattle.frame.specs.Frame.{startOctet}
 use Rattle.reader.specs.Order.{both, ends}
 use mathlib.Core.Logic.{⊎-elim}
 use native.Mathlib.Omega.{arith}
-use Rattle.reader.proofs.Rules.{neither, ends-is, ends-not, rules-8, rules-9, rules-done, rules-more}
+use Rattle.reader.proofs.Rules.{neither, ends-is, ends-not, rules-8, rules-done, rules-more}
 use borrow.Author.Needs.{needs}
 use Rattle.reader.proofs.octet_rules.Statement.{statement}
 use Rattle.reader.proofs.octet_rules.Tie as tie
@@ -27,12 +27,6 @@ off-8 c = let a = c .before .args in
     ⊎-elim (λ w. neither (ends (a .per) 4 (a .taken)) (not (eqb (a .octet) startOctet)) (λ _. w .1 .left))
     (λ w. neither _ _ (λ t. not-both _ t (ends-not (a .per) 4 (a .taken) _ refl (w .left)))) (c .if1 .came)
 
-off-9 : (c : lts.Joined3 reads.Pre reads.Post)
-    → both (ends (c .before .before .args .per) 5 (c .before .before .args .taken)) (ltb 127 (c .before .before .args .n)) ≡ false
-off-9 c = let a = c .before .before .args in
-    ⊎-elim (λ w. neither (ends (a .per) 5 (a .taken)) (ltb 127 (a .n)) (λ _. w .1 .left))
-    (λ w. neither _ _ (λ t. not-both _ t (ends-not (a .per) 5 (a .taken) _ refl (w .left)))) (c .if3 .came)
-
 add-if1 : tie.Need-add-if1
 add-if1 c = search needs
 
@@ -49,33 +43,25 @@ returns c = let a = c .before .before .args in
 add-if3 : tie.Need-add-if3
 add-if3 c = search needs
 
+add-if3-2 : tie.Need-add-if3-2
+add-if3-2 c = search needs
+
 mul-if3 : tie.Need-mul-if3
-mul-if3 c = search needs
+mul-if3 c = omega (arith, mul-le-mul-right (6 + c .before .args .n) (c .before .pre .0))
 
 returns-2 : tie.Need-returns-2
-returns-2 c = let a = c .before .before .before .args in
-    sym (rules-9 _ _ _ _ _ (off-7 (a .per) (a .taken)) (off-8 (c .before .before)) (rw (ends-is _ 5 _ _ refl (c .before .if3 .taken)) (c .if4 .taken)))
-
-add-if5 : tie.Need-add-if5
-add-if5 c = search needs
-
-add-if5-2 : tie.Need-add-if5-2
-add-if5-2 c = search needs
-
-mul-if5 : tie.Need-mul-if5
-mul-if5 c = omega (arith, mul-le-mul-right (6 + c .before .before .args .n) (c .before .before .pre))
+returns-2 c = let s = c .before .before in
+    let a = s .args in
+    let n : 6 + a .n ≡ suc (5 + a .n) = omega arith in
+    sym (rules-done _ _ _ _ _ (off-7 (a .per) (a .taken)) (off-8 (c .before)) (s .pre .1)
+    (ends-is _ _ _ _ (ap (λ (m : ℕ). m * a .per) n) (c .if3 .taken)))
 
 returns-3 : tie.Need-returns-3
-returns-3 c = let a = c .before .before .before .args in
+returns-3 c = let s = c .before .before in
+    let a = s .args in
     let n : 6 + a .n ≡ suc (5 + a .n) = omega arith in
-    sym (rules-done _ _ _ _ _ (off-7 (a .per) (a .taken)) (off-8 (c .before .before)) (off-9 (c .before))
-    (ends-is _ _ _ _ (ap (λ (m : ℕ). m * a .per) n) (c .if5 .taken)))
-
-returns-4 : tie.Need-returns-4
-returns-4 c = let a = c .before .before .before .args in
-    let n : 6 + a .n ≡ suc (5 + a .n) = omega arith in
-    sym (rules-more _ _ _ _ _ (off-7 (a .per) (a .taken)) (off-8 (c .before .before)) (off-9 (c .before))
-    (ends-not _ _ _ _ (ap (λ (m : ℕ). m * a .per) n) (c .if5 .left)))
+    sym (rules-more _ _ _ _ _ (off-7 (a .per) (a .taken)) (off-8 (c .before)) (s .pre .1)
+    (ends-not _ _ _ _ (ap (λ (m : ℕ). m * a .per) n) (c .if3 .left)))
 
 pub octet-rules-spec : {M : Type 1} → statement M
 octet-rules-spec =
@@ -86,10 +72,7 @@ octet-rules-spec =
     cast-if2
     returns
     add-if3
+    add-if3-2
     mul-if3
     returns-2
-    add-if5
-    add-if5-2
-    mul-if5
-    returns-3
-    returns-4)
+    returns-3)

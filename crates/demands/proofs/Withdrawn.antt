@@ -1,0 +1,79 @@
+-- 9 is withdrawn: no call gives it, whatever it is lent, and no record that the calls make holds
+-- it. Take alone repeats it, of a record that was given it from outside, as it repeats any other
+-- number. Assumes nothing.
+use mathlib.Core.Path.{_≡_, refl, sym, ap, _∙_}
+use mathlib.Core.Bool.{true, false}
+use mathlib.Core.List.{List, [], _∷_}
+use mathlib.Core.Logic.{_⊎_, ⊎-elim}
+use Prim.Native.Nat.{ℕ}
+use native.Mathlib.Omega.{arith}
+use lib.ListN.{length}
+use Rattle.codes.specs.Numbers.{DONE, BADMODE, TOOLONG, NOROOM, RUNOUT, NOCHIP, LOST, PREAMBLE, BADSTART, ENDED, BADPART, NOTENDED, MORE, TOOFEW}
+use Rattle.codes.specs.Numbers.{BADCHECK, ALLZERO, FORGED}
+use Rattle.codes.specs.Chips.{among}
+use Rattle.codes.proofs.Tests.{not-both}
+use Rattle.frame.specs.Write.{written}
+use Rattle.reader.specs.Read.{readOf}
+use Rattle.receiver.specs.declared.Receiver.{Receiver}
+use Rattle.receiver.specs.Record.{startOf, pushOf, finishOf, takeOf}
+use Rattle.checked.specs.Profile.{checkOf, readCheckedOf, writtenChecked}
+use Rattle.checked.proofs.Passing.{check-numbers}
+use Rattle.demands.specs.Calls.{Call, pushing, finishing, taking, called, after, tells}
+use Rattle.demands.proofs.Demand1.{read-numbers, write-numbers}
+use Rattle.demands.proofs.Given.{start-numbers, push-numbers, finish-numbers, take-numbers}
+use Rattle.demands.proofs.Made.{holds-no, made}
+use Rattle.demands.proofs.Forged.{refused-idle}
+use Rattle.demands.proofs.Checked.{checked-write-numbers, checked-read-numbers}
+
+-- a number that is among others
+other : (ns : List ℕ) → among 9 ns ≡ false → (x : ℕ) → among x ns ≡ true → x ≡ 9 → ⊥
+other ns f x t e = not-both (among 9 ns) (rw e at t) f
+
+-- Writer and reader, of either profile, and the check of a report.
+module _ (mode : ℕ) (xs buffer : List ℕ) where
+  pub write-never : written mode xs buffer .answer .number ≡ 9 → ⊥
+  write-never = other (DONE ∷ BADMODE ∷ TOOLONG ∷ NOROOM ∷ []) refl _ (write-numbers mode xs buffer)
+
+  pub read-never : readOf mode xs buffer .answer .number ≡ 9 → ⊥
+  read-never = other (DONE ∷ BADMODE ∷ NOROOM ∷ RUNOUT ∷ NOCHIP ∷ LOST ∷ PREAMBLE ∷ BADSTART ∷ []) refl _ (read-numbers mode xs buffer)
+
+  pub checked-write-never : writtenChecked mode xs buffer .answer .number ≡ 9 → ⊥
+  checked-write-never = other (DONE ∷ BADMODE ∷ TOOLONG ∷ NOROOM ∷ TOOFEW ∷ ALLZERO ∷ []) refl _ (checked-write-numbers mode xs buffer)
+
+  pub checked-read-never : readCheckedOf mode xs buffer .answer .number ≡ 9 → ⊥
+  checked-read-never =
+      other (DONE ∷ BADMODE ∷ NOROOM ∷ RUNOUT ∷ NOCHIP ∷ LOST ∷ PREAMBLE ∷ BADSTART ∷ TOOFEW ∷ BADCHECK ∷ ALLZERO ∷ []) refl _
+      (checked-read-numbers mode xs buffer)
+
+  pub check-never : checkOf xs ≡ 9 → ⊥
+  check-never = other (DONE ∷ TOOFEW ∷ BADCHECK ∷ ALLZERO ∷ []) refl _ (check-numbers xs)
+
+-- Start, and push and finish of every record.
+pub start-never : (mode : ℕ) → startOf mode .number ≡ 9 → ⊥
+start-never mode = other (BADMODE ∷ MORE ∷ []) refl _ (start-numbers mode)
+
+pub push-never : (c : Receiver) (part : List ℕ) → pushOf c part .number ≡ 9 → ⊥
+push-never c part = other (DONE ∷ NOCHIP ∷ LOST ∷ PREAMBLE ∷ BADSTART ∷ ENDED ∷ BADPART ∷ MORE ∷ FORGED ∷ []) refl _ (push-numbers c part)
+
+pub finish-never : (c : Receiver) → finishOf c .number ≡ 9 → ⊥
+finish-never c = other (RUNOUT ∷ ENDED ∷ FORGED ∷ []) refl _ (finish-numbers c)
+
+-- A record that the calls made doesn't hold it, and so no call on it gives it.
+module _ (mode : ℕ) (xs : List Call) where
+  abbrev c : Receiver
+  c = after (startOf mode .receiver) xs
+
+  pub made-never : c .ended ≡ 9 → ⊥
+  made-never = holds-no 9 refl refl refl c (made mode xs .honest)
+
+  pub called-never : (x : Call) → called c x .number ≡ 9 → ⊥
+  unfolding called
+  called-never (pushing part) = push-never c part
+  called-never finishing = finish-never c
+  called-never (taking buffer) =
+      ⊎-elim (λ t. other (DONE ∷ NOROOM ∷ NOTENDED ∷ FORGED ∷ []) refl _ t) (λ t e. made-never (sym (t .0) ∙ e)) (take-numbers c buffer)
+
+-- Take of any record that holds it repeats it, at its place.
+pub take-repeats : (c : Receiver) → c .ended ≡ 9 → (buffer : List ℕ) → takeOf c buffer ≡ tells 9 (c .taken) buffer
+take-repeats c e buffer =
+    refused-idle c (λ m. omega (arith, e, m)) (λ d. omega (arith, e, d)) .taken buffer ∙ ap (λ (x : ℕ). tells x (c .taken) buffer) e
