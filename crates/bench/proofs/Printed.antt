@@ -6,8 +6,8 @@ use Rattle.codes.specs.Chips.{distance, bad}
 use Rattle.codes.specs.Radio.{oqpsk, bpskWords, oqpskWord, oqpskWords, lowbandWord, lowbandWords, turnedWords, turns, turned, oddInverted}
 use Rattle.codes.specs.Symbol.{within, first, valued, symbolOf}
 use Rattle.frame.specs.Frame.{digits, raws, encode, symbolsWith, chipsOf, frame, frameWith}
-use Rattle.reader.specs.Received.{decode, valueOf, octetsFrom}
-use Rattle.reader.specs.Order.{windows, rules, repaired, concluded, taking, readingFrom, reading}
+use Rattle.order.specs.Received.{decode, valueOf, octetsFrom}
+use Rattle.order.specs.Order.{windows, rules, repaired, concluded, taking, readingFrom, reading}
 use Rattle.reader.specs.Read.{told, answerAt}
 use Rattle.bench.specs.Lines.{decimalIn, linesOf}
 

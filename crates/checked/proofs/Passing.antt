@@ -14,7 +14,7 @@ use Rattle.codes.specs.Numbers.{DONE, TOOFEW, BADCHECK, ALLZERO}
 use Rattle.codes.specs.Chips.{among}
 use Rattle.codes.proofs.Tests.{by-test, by-pick, both-true, not-both}
 use Rattle.frame.proofs.Below.{Below, below-at}
-use Rattle.reader.specs.Received.{valueOf}
+use Rattle.order.specs.Received.{valueOf}
 use Rattle.fcs.specs.Fcs.{fcsOf, fcsOctets, withFcs}
 use Rattle.fcs.proofs.Remainder.{zeros-pass, with-long}
 use Rattle.checked.specs.Profile.{allZero, body, rightFcs, checkOf}

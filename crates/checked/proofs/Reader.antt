@@ -11,9 +11,9 @@ use borrow.Author.Tests.{eq-eqb, ne-eqb}
 use Rattle.codes.specs.Numbers.{DONE}
 use Rattle.frame.specs.Outcome.{Outcome, outcome}
 use Rattle.reader.specs.declared.Reading.{Reading}
-use Rattle.reader.specs.Order.{Answer, refused, done}
+use Rattle.order.specs.Order.{Answer, refused, done}
 use Rattle.reader.specs.Read.{told, left, answerAt, answered, readOf}
-use Rattle.reader.specs.Taking.{storedIn}
+use Rattle.reader.specs.Telling.{storedIn}
 use Rattle.reader.proofs.Fair.{Told, answer-told}
 use Rattle.reader.proofs.Told.{stored-done}
 use Rattle.checked.specs.Profile.{checkOf, checkedAnswer, readCheckedOf}

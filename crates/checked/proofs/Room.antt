@@ -13,8 +13,8 @@ use Rattle.codes.specs.Symbol.{symbolOf}
 use Rattle.codes.specs.declared.Symbol.{Symbol}
 use Rattle.codes.proofs.Tests.{by-test}
 use Rattle.frame.specs.Frame.{perOctet}
-use Rattle.reader.specs.Received.{received, octetAt}
-use Rattle.reader.specs.Order.{Answer, rules, values, lengthIn, verdict, taking, readingFrom, reading, whole}
+use Rattle.order.specs.Received.{received, octetAt}
+use Rattle.order.specs.Order.{Answer, rules, values, lengthIn, verdict, taking, readingFrom, reading, whole}
 use Rattle.reader.specs.Read.{answerAt}
 
 -- for a length of at most 127 the test of room says the same

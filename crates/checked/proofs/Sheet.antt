@@ -12,8 +12,8 @@ use Rattle.frame.specs.Outcome.{Outcome, outcome}
 use Rattle.frame.specs.Frame.{digits, raws, encode, symbolsWith, chipsOf, frameWith}
 use Rattle.frame.specs.Write.{written}
 use Rattle.reader.specs.declared.Reading.{Reading}
-use Rattle.reader.specs.Received.{decode, valueOf, octetsFrom}
-use Rattle.reader.specs.Order.{windows, rules, repaired, concluded, taking, readingFrom, reading}
+use Rattle.order.specs.Received.{decode, valueOf, octetsFrom}
+use Rattle.order.specs.Order.{windows, rules, repaired, concluded, taking, readingFrom, reading}
 use Rattle.reader.specs.Read.{told, left, answerAt}
 use Rattle.fcs.specs.Fcs.{entered, registerAfter, bits, fcsOf}
 use Rattle.checked.specs.Profile.{allZero, checkOf, checkedAnswer, readCheckedOf, writtenChecked}

@@ -10,7 +10,7 @@ use lib.ListN.{length, getD, take, drop, drop-of-length-le}
 use lib.Seq.{drop-cons}
 use borrow.Author.Tests.{lt-ltb, le-ltb, eq-eqb, ne-eqb}
 use Rattle.codes.specs.Numbers.{DONE, TOOFEW, BADCHECK, ALLZERO}
-use Rattle.reader.specs.Received.{valueOf}
+use Rattle.order.specs.Received.{valueOf}
 use Rattle.fcs.specs.Fcs.{fcsOf}
 use Rattle.checked.specs.Profile.{allZero, rightFcs, checkOf}
 

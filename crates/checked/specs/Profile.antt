@@ -12,8 +12,8 @@ use Rattle.frame.specs.declared.Written.{Written}
 use Rattle.frame.specs.Outcome.{Outcome}
 use Rattle.frame.specs.Write.{unwritten, written}
 use Rattle.reader.specs.declared.Reading.{Reading}
-use Rattle.reader.specs.Received.{valueOf}
-use Rattle.reader.specs.Order.{Answer, refused, done, both}
+use Rattle.order.specs.Received.{valueOf}
+use Rattle.order.specs.Order.{Answer, refused, done, both}
 use Rattle.reader.specs.Read.{answerAt, answered}
 use Rattle.fcs.specs.Fcs.{fcsOf, withFcs}
 

@@ -12,13 +12,13 @@ use Rattle.codes.specs.declared.Symbol.{Symbol}
 use Rattle.frame.specs.Frame.{perOctet, octetsWith, raws, symbols, symbolsWith}
 use Rattle.frame.proofs.Chain.{encode-long}
 use Rattle.frame.proofs.Count.{raws-below, symbols-long, symbols-same}
-use Rattle.reader.specs.Received.{decode, received, octetAt}
-use Rattle.reader.specs.Order.{done, values, readingFrom}
+use Rattle.order.specs.Received.{decode, received, octetAt}
+use Rattle.order.specs.Order.{done, values, readingFrom}
 use Rattle.demands.specs.Words.{Report}
 use Rattle.demands.proofs.Back.{decode-take, decode-encode}
-use Rattle.reader.proofs.Raw.{per-positive}
+use Rattle.order.proofs.Raw.{per-positive}
 use Rattle.demands.proofs.Path.{rawsTo, Run, ending, run-reading}
-use Rattle.reader.proofs.Windows.{seen}
+use Rattle.order.proofs.Windows.{seen}
 use Rattle.demands.proofs.Framed.{bit-in, report-in, framed-more, framed-done}
 use Rattle.demands.proofs.Stands.{Stands, values-long, values-at, values-take, octet-front}
 use Rattle.demands.proofs.Ended.{bitIn}

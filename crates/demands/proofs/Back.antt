@@ -9,7 +9,7 @@ use Rattle.codes.specs.Radio.{Radio, Sound}
 use Rattle.codes.proofs.Tests.{by-test}
 use Rattle.frame.specs.Frame.{sent, encode}
 use Rattle.frame.proofs.Below.{Below}
-use Rattle.reader.specs.Received.{rawAfter, decode}
+use Rattle.order.specs.Received.{rawAfter, decode}
 
 module _ (r : Radio) where
   -- the first raw symbols are those of the first values

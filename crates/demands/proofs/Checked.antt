@@ -25,7 +25,7 @@ use Rattle.frame.specs.Frame.{symbols, frame}
 use Rattle.frame.specs.Write.{unwritten, written}
 use Rattle.frame.proofs.Below.{Below, at-below, below-at}
 use Rattle.reader.specs.declared.Reading.{Reading}
-use Rattle.reader.specs.Order.{Answer, refused, done, whole}
+use Rattle.order.specs.Order.{Answer, refused, done, whole}
 use Rattle.reader.specs.Read.{told, left, answerAt, answered, readOf}
 use Rattle.reader.proofs.Fair.{Told, answer-told}
 use Rattle.receiver.specs.Record.{startOf, takeOf}

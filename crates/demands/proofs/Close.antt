@@ -13,11 +13,11 @@ use Rattle.codes.specs.Symbol.{reads, symbolOf}
 use Rattle.codes.specs.declared.Symbol.{Symbol}
 use Rattle.codes.proofs.Unique.{Reads, of-symbol, symbol-of}
 use Rattle.frame.specs.Frame.{symbolsWith, frameWith}
-use Rattle.reader.specs.Order.{window, whole, repaired}
+use Rattle.order.specs.Order.{window, whole, repaired}
 use Rattle.demands.specs.Words.{Near, differences}
-use Rattle.reader.proofs.Windows.{whole-long, whole-at, seen, seen-long}
-use Rattle.reader.proofs.Raw.{size-pos}
-use Rattle.reader.proofs.Carried.{repaired-append}
+use Rattle.order.proofs.Windows.{whole-long, whole-at, seen, seen-long}
+use Rattle.order.proofs.Raw.{size-pos}
+use Rattle.order.proofs.Carried.{repaired-append}
 use Rattle.demands.proofs.Stands.{Stands, seen-at}
 use Rattle.demands.proofs.Fronts.{window-long, front-chips, window-chips}
 use Rattle.demands.proofs.Frames.{symbol-known, window-in, window-of, frame-window, sum-of-windows}

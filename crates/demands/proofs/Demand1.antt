@@ -14,7 +14,7 @@ use Rattle.frame.specs.declared.Written.{Written}
 use Rattle.frame.specs.Outcome.{Outcome, outcome}
 use Rattle.frame.specs.Frame.{perOctet, frame}
 use Rattle.frame.specs.Write.{unwritten, wrote, written}
-use Rattle.reader.specs.Order.{Answer, refused, done, reading}
+use Rattle.order.specs.Order.{Answer, refused, done, reading}
 use Rattle.reader.specs.Read.{told, left, answerAt, readOf}
 use Rattle.demands.specs.Words.{Placed}
 use Rattle.codes.proofs.Tests.{by-pick}

@@ -15,7 +15,7 @@ use Rattle.codes.specs.Radio.{Radio, Sound, known, radioOf}
 use Rattle.codes.proofs.Facts.{sound}
 use Rattle.frame.specs.Frame.{frame}
 use Rattle.frame.specs.Write.{written}
-use Rattle.reader.specs.Order.{window}
+use Rattle.order.specs.Order.{window}
 use Rattle.reader.specs.Read.{readOf}
 use Rattle.demands.specs.Words.{Report, frames, OneOf, Answers, Near, NearOne, success}
 use Rattle.demands.proofs.Demand3.{demand-3}

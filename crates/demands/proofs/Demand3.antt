@@ -14,7 +14,7 @@ use lib.ListN.{length}
 use Rattle.codes.specs.Radio.{Radio, Sound}
 use Rattle.frame.specs.Frame.{symbols, frameWith}
 use Rattle.frame.proofs.Count.{symbols-same}
-use Rattle.reader.specs.Order.{done, whole, reading}
+use Rattle.order.specs.Order.{done, whole, reading}
 use Rattle.demands.specs.Words.{Report, frames, OneOf, frameRead, Answers, Near, NearOne, differences}
 use Rattle.demands.proofs.Frames.{sum-of-windows, one-of, Bit, bit-of}
 use Rattle.demands.proofs.Ended.{bitIn, reading-heard}

@@ -19,7 +19,7 @@ use lib.Arith.{digits-lt}
 use lib.ListN.{length}
 use Rattle.frame.specs.Frame.{digits}
 use Rattle.frame.proofs.Below.{Below}
-use Rattle.reader.specs.Received.{valueOf}
+use Rattle.order.specs.Received.{valueOf}
 
 module _ (base : ℕ) (pos : 0 < base) where
   -- the digits of a number make it

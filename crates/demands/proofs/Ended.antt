@@ -16,14 +16,14 @@ use Rattle.codes.proofs.Unique.{Reads, of-symbol}
 use Rattle.frame.specs.Frame.{octetsWith, perOctet, raws, encode, symbols, symbolsWith}
 use Rattle.frame.proofs.Count.{symbols-same}
 use Rattle.frame.proofs.Below.{Below, at-below}
-use Rattle.reader.specs.Received.{decode, received, octetAt}
-use Rattle.reader.specs.Order.{done, values, repaired, lengthIn, verdict, reportIn, readingFrom}
+use Rattle.order.specs.Received.{decode, received, octetAt}
+use Rattle.order.specs.Order.{done, values, repaired, lengthIn, verdict, reportIn, readingFrom}
 use Rattle.demands.specs.Words.{Report}
 use Rattle.demands.proofs.Back.{decode-take, encode-decode}
-use Rattle.reader.proofs.Raw.{decode-long, decode-below}
-use Rattle.reader.proofs.Rules.{Clear, rules-clear, rules-last}
+use Rattle.order.proofs.Raw.{decode-long, decode-below}
+use Rattle.order.proofs.Rules.{Clear, rules-clear, rules-last}
 use Rattle.demands.proofs.Path.{rawsTo, Run, ending, same-parts, reading-run}
-use Rattle.reader.proofs.Windows.{seen}
+use Rattle.order.proofs.Windows.{seen}
 use Rattle.demands.proofs.Found.{found-room, found-bit, found-report, found-raws}
 use Rattle.demands.proofs.Stands.{Stands, values-long, values-at, values-take, octet-front}
 

@@ -17,7 +17,7 @@ use Rattle.codes.specs.Symbol.{symbolOf}
 use Rattle.codes.proofs.Tests.{by-test, not-both}
 use Rattle.frame.specs.Frame.{perOctet, symbols}
 use Rattle.frame.proofs.Count.{symbols-long}
-use Rattle.reader.specs.Order.{Answer}
+use Rattle.order.specs.Order.{Answer}
 use Rattle.reader.specs.Read.{told, left, answered}
 use Rattle.receiver.specs.declared.Receiver.{Receiver}
 use Rattle.receiver.specs.declared.Step.{Step}

@@ -11,13 +11,13 @@ use Rattle.codes.specs.Radio.{Radio, Sound}
 use Rattle.codes.proofs.Rows.{row-in}
 use Rattle.frame.specs.Frame.{startOctet, octetsWith, perOctet, raws}
 use Rattle.frame.proofs.Below.{Below, at-below, below-at}
-use Rattle.reader.specs.Received.{octetAt, octetsFrom}
-use Rattle.reader.specs.Order.{lengthIn, reportIn}
+use Rattle.order.specs.Received.{octetAt, octetsFrom}
+use Rattle.order.specs.Order.{lengthIn, reportIn}
 use Rattle.demands.specs.Words.{Report}
 use Rattle.demands.proofs.Digits.{value-nought}
 use Rattle.demands.proofs.Octet.{raws-octets, octets-below, octet-take}
-use Rattle.reader.proofs.Raw.{octets-long, per-positive}
-use Rattle.reader.proofs.Rules.{Clear}
+use Rattle.order.proofs.Raw.{octets-long, per-positive}
+use Rattle.order.proofs.Rules.{Clear}
 
 module _ (r : Radio) (S : Sound r) (room : ℕ) (bs : List ℕ) (p : Below (2 ^ r .bits) bs)
     (clear : (s : ℕ) → s < length bs → Clear (perOctet r) room s (getD bs s 0) (octetAt r 4 (take (suc s) bs)) (lengthIn r (take (suc s) bs)))

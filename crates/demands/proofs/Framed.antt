@@ -14,11 +14,11 @@ use Rattle.frame.specs.Frame.{startOctet, octetsWith, perOctet, rawOf, raws}
 use Rattle.frame.proofs.Count.{digits-nought, raws-long}
 use Rattle.frame.proofs.Below.{Below, below-append, at-below, below-at}
 use Rattle.frame.proofs.Parts.{before}
-use Rattle.reader.specs.Received.{octetAt, octetsFrom}
-use Rattle.reader.specs.Order.{lengthIn, verdict, reportIn}
+use Rattle.order.specs.Received.{octetAt, octetsFrom}
+use Rattle.order.specs.Order.{lengthIn, verdict, reportIn}
 use Rattle.demands.specs.Words.{Report}
 use Rattle.demands.proofs.Octet.{octets-raws, octet-take}
-use Rattle.reader.proofs.Rules.{Clear, clear-rules}
+use Rattle.order.proofs.Rules.{Clear, clear-rules}
 
 -- raw symbols of octets that are 0 are 0
 nought : (r : Radio) → Below 1 (raws r (0 ∷ 0 ∷ 0 ∷ 0 ∷ []))

@@ -16,9 +16,9 @@ use Rattle.codes.proofs.Chips.{bad-append}
 use Rattle.frame.specs.Frame.{symbolsWith, chipsOf, frameWith}
 use Rattle.frame.proofs.Count.{symbols-below, frame-size, frame-long}
 use Rattle.frame.proofs.Below.{Below, below-at}
-use Rattle.reader.specs.Order.{window}
+use Rattle.order.specs.Order.{window}
 use Rattle.demands.specs.Words.{frames, OneOf, Near, differences}
-use Rattle.reader.proofs.Raw.{size-pos}
+use Rattle.order.proofs.Raw.{size-pos}
 use Rattle.demands.proofs.Fronts.{window-same, front-distance, word-window}
 
 module _ (r : Radio) (S : Sound r) where

@@ -17,7 +17,7 @@ use Rattle.codes.proofs.Rows.{row-in, drop-past}
 use Rattle.frame.specs.Frame.{chipsOf}
 use Rattle.frame.proofs.Count.{word-long}
 use Rattle.frame.proofs.Below.{Below}
-use Rattle.reader.specs.Order.{window}
+use Rattle.order.specs.Order.{window}
 use Rattle.demands.specs.Words.{differences}
 use Rattle.demands.proofs.Octet.{drop-take}
 

@@ -15,12 +15,12 @@ use Rattle.codes.specs.Symbol.{valued, symbolOf}
 use Rattle.codes.specs.declared.Symbol.{Symbol}
 use Rattle.codes.proofs.Tests.{by-pick, by-test, not-both}
 use Rattle.frame.specs.Frame.{startOctet, perOctet}
-use Rattle.reader.specs.declared.Hand.{Hand}
-use Rattle.reader.specs.Order.{Answer, refused, done, both, ends, rules}
+use Rattle.order.specs.declared.Hand.{Hand}
+use Rattle.order.specs.Order.{Answer, refused, done, both, ends, rules}
 use Rattle.reader.specs.Read.{told}
-use Rattle.reader.specs.Taking.{stopped, rawFrom, shifted, lengthAfter, moved, advanced, followed}
-use Rattle.reader.proofs.Rules.{roomy, length-few}
-use Rattle.reader.proofs.Steps.{followed-stops, kept-stops}
+use Rattle.order.specs.Taking.{stopped, rawFrom, shifted, lengthAfter, moved, advanced, followed}
+use Rattle.order.proofs.Rules.{roomy, length-few}
+use Rattle.order.proofs.Steps.{followed-stops, kept-stops}
 use Rattle.receiver.specs.declared.Receiver.{Receiver}
 use Rattle.receiver.specs.declared.Step.{Step}
 use Rattle.receiver.specs.Record.{step, startOf, isOpen, endedWell, forged, handOf, held, tookSymbol, pushOf, endedWith, finishOf, roomFor, takes, takeOf}

@@ -12,9 +12,9 @@ use Rattle.codes.specs.Numbers.{DONE, NOROOM, MORE}
 use Rattle.codes.specs.Radio.{known, radioOf}
 use Rattle.frame.specs.Frame.{perOctet, symbols}
 use Rattle.frame.proofs.Count.{symbols-long}
-use Rattle.reader.specs.Order.{Answer, refused, done}
+use Rattle.order.specs.Order.{Answer, refused, done}
 use Rattle.reader.specs.Read.{told, left, answered}
-use Rattle.reader.specs.Taking.{Complete}
+use Rattle.order.specs.Taking.{Complete}
 use Rattle.receiver.specs.declared.Receiver.{Receiver}
 use Rattle.receiver.specs.Record.{startOf, forged, handOf, takeOf}
 use Rattle.receiver.proofs.Ways.{takes-open, takes-refused, takes-short, takes-done}

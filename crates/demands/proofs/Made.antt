@@ -18,11 +18,11 @@ use Rattle.codes.specs.Symbol.{symbolOf}
 use Rattle.codes.proofs.Tests.{by-pick, by-test, not-both}
 use Rattle.codes.proofs.Facts.{sound}
 use Rattle.frame.specs.Frame.{perOctet}
-use Rattle.reader.specs.declared.Hand.{Hand}
-use Rattle.reader.specs.Taking.{keptIn, keptAt, Complete}
-use Rattle.reader.proofs.Carried.{Carries, carries-none}
-use Rattle.reader.proofs.Turns.{Open, open-begun}
-use Rattle.reader.proofs.Gathered.{kept-long}
+use Rattle.order.specs.declared.Hand.{Hand}
+use Rattle.order.specs.Taking.{keptIn, keptAt, Complete}
+use Rattle.order.proofs.Carried.{Carries, carries-none}
+use Rattle.order.proofs.Turns.{Open, open-begun}
+use Rattle.order.proofs.Gathered.{kept-long}
 use Rattle.reader.proofs.Modes.{followed-turned}
 use Rattle.receiver.specs.declared.Receiver.{Receiver}
 use Rattle.receiver.specs.declared.Step.{Step}

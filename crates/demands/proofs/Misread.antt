@@ -21,10 +21,10 @@ use Rattle.codes.proofs.Unique.{Reads, of-symbol}
 use Rattle.frame.specs.Frame.{startOctet, octetsWith, perOctet, raws, encode, symbols, symbolsWith}
 use Rattle.frame.proofs.Below.{Below, below-at, below-set}
 use Rattle.frame.proofs.Count.{raws-below, symbols-long, symbols-same, symbols-below}
-use Rattle.reader.specs.Received.{decode, octetAt, octetsFrom}
-use Rattle.reader.specs.Order.{window, whole, repaired, reading}
-use Rattle.reader.proofs.Raw.{per-positive, bits-pos, decode-long, decode-below, octets-long, size-pos}
-use Rattle.reader.proofs.Windows.{whole-long, whole-at, seen}
+use Rattle.order.specs.Received.{decode, octetAt, octetsFrom}
+use Rattle.order.specs.Order.{window, whole, repaired, reading}
+use Rattle.order.proofs.Raw.{per-positive, bits-pos, decode-long, decode-below, octets-long, size-pos}
+use Rattle.order.proofs.Windows.{whole-long, whole-at, seen}
 use Rattle.fcs.specs.Fcs.{bits, withFcs}
 use Rattle.fcs.proofs.Remainder.{with-long}
 use Rattle.checked.specs.Profile.{checkOf, readCheckedOf}

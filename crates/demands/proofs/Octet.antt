@@ -11,8 +11,8 @@ use Rattle.codes.specs.Radio.{Radio, Sound}
 use Rattle.frame.specs.Frame.{perOctet, rawOf, raws}
 use Rattle.frame.proofs.Count.{raw-long}
 use Rattle.frame.proofs.Below.{Below, below-take, below-drop}
-use Rattle.reader.specs.Received.{valueOf, octetAt, octetsFrom}
-use Rattle.reader.proofs.Raw.{octet-values}
+use Rattle.order.specs.Received.{valueOf, octetAt, octetsFrom}
+use Rattle.order.proofs.Raw.{octet-values}
 use Rattle.demands.proofs.Digits.{value-digits, digits-value, value-below}
 
 -- the front of a part is a part of the front

@@ -14,9 +14,9 @@ use Rattle.codes.specs.Chips.{pick}
 use Rattle.codes.specs.Radio.{Radio}
 use Rattle.codes.specs.Symbol.{symbolOf}
 use Rattle.codes.proofs.Tests.{by-test}
-use Rattle.reader.specs.Received.{received}
-use Rattle.reader.proofs.Windows.{seen, seen-front, seen-next, rest, rest-more, rest-out}
-use Rattle.reader.specs.Order.{Answer, refused, done, values, repaired, verdict, reportIn, concluded, taking}
+use Rattle.order.specs.Received.{received}
+use Rattle.order.proofs.Windows.{seen, seen-front, seen-next, rest, rest-more, rest-out}
+use Rattle.order.specs.Order.{Answer, refused, done, values, repaired, verdict, reportIn, concluded, taking}
 
 -- the raw symbols of the first k windows
 abbrev pub rawsTo : Radio → List (List ℕ) → ℕ → List ℕ

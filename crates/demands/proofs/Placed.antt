@@ -14,7 +14,7 @@ use Rattle.codes.specs.Radio.{Radio}
 use Rattle.codes.specs.Symbol.{valued, symbolOf}
 use Rattle.codes.proofs.Tests.{by-pick, not-both}
 use Rattle.frame.specs.Frame.{startOctet, perOctet}
-use Rattle.reader.specs.Order.{Answer, refused, done, both, ends, rules, reading}
+use Rattle.order.specs.Order.{Answer, refused, done, both, ends, rules, reading}
 use Rattle.demands.specs.Words.{Placed}
 use Rattle.reader.proofs.Fair.{reading-ways}
 

@@ -15,7 +15,7 @@ use Rattle.codes.proofs.Facts.{sound, unflat}
 use Rattle.frame.specs.Outcome.{Outcome}
 use Rattle.frame.specs.Frame.{symbols}
 use Rattle.reader.specs.declared.Reading.{Reading}
-use Rattle.reader.specs.Order.{Answer, refused, done, window, reading}
+use Rattle.order.specs.Order.{Answer, refused, done, window, reading}
 use Rattle.reader.specs.Read.{told, left, answerAt, answered, readOf}
 use Rattle.demands.specs.Words.{Report, frames, OneOf, Answers, Near, NearOne, success}
 use Rattle.reader.proofs.Fair.{Told, answer-told, Fair, answer-fair, done-unfair}

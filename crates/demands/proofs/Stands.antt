@@ -11,10 +11,10 @@ use Rattle.codes.specs.Radio.{Radio, word}
 use Rattle.codes.specs.Symbol.{reads, symbolOf}
 use Rattle.codes.specs.declared.Symbol.{Symbol}
 use Rattle.frame.specs.Frame.{perOctet}
-use Rattle.reader.specs.Received.{received, octetAt}
-use Rattle.reader.specs.Order.{values, repaired}
-use Rattle.reader.proofs.Windows.{seen, seen-front}
-use Rattle.reader.proofs.Carried as carried
+use Rattle.order.specs.Received.{received, octetAt}
+use Rattle.order.specs.Order.{values, repaired}
+use Rattle.order.proofs.Windows.{seen, seen-front}
+use Rattle.order.proofs.Carried as carried
 use Rattle.demands.proofs.Back.{decode-take}
 use Rattle.demands.proofs.Octet.{octet-take}
 

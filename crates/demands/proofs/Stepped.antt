@@ -17,10 +17,10 @@ use Rattle.codes.specs.Radio.{known, radioOf}
 use Rattle.codes.specs.Symbol.{symbolOf}
 use Rattle.codes.proofs.Tests.{by-pick, by-test}
 use Rattle.codes.proofs.Facts.{sound}
-use Rattle.reader.specs.Order.{Answer, refused, done, whole, readingFrom, reading}
+use Rattle.order.specs.Order.{Answer, refused, done, whole, readingFrom, reading}
 use Rattle.reader.specs.Read.{answerAt, answered, readOf}
-use Rattle.reader.proofs.Raw.{size-pos}
-use Rattle.reader.proofs.Windows.{whole-sized}
+use Rattle.order.proofs.Raw.{size-pos}
+use Rattle.order.proofs.Windows.{whole-sized}
 use Rattle.receiver.specs.declared.Receiver.{Receiver}
 use Rattle.receiver.specs.declared.Step.{Step}
 use Rattle.receiver.specs.Record.{startOf, forged, tookSymbol, pushOf, finishOf, roomFor, takeOf}

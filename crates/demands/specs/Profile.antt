@@ -7,7 +7,7 @@ use lib.ListN.{length, getD, replicate}
 use Rattle.codes.specs.Numbers.{DONE}
 use Rattle.codes.specs.Radio.{Radio}
 use Rattle.codes.specs.Symbol.{symbolOf}
-use Rattle.reader.specs.Order.{window}
+use Rattle.order.specs.Order.{window}
 use Rattle.fcs.specs.Fcs.{withFcs}
 use Rattle.checked.specs.Profile.{body}
 

@@ -14,8 +14,8 @@ use Rattle.frame.specs.Outcome.{Outcome, outcome}
 use Rattle.codes.specs.Symbol.{symbolOf}
 use Rattle.frame.specs.Frame.{symbols, frameWith}
 use Rattle.reader.specs.declared.Reading.{Reading}
-use Rattle.reader.specs.Received.{received, octetAt}
-use Rattle.reader.specs.Order.{done, window, whole, values, reading}
+use Rattle.order.specs.Received.{received, octetAt}
+use Rattle.order.specs.Order.{done, window, whole, values, reading}
 
 -- a report: at most 127 numbers below 256
 pub record Report (report : List ℕ) : Type 0 where

@@ -14,9 +14,9 @@ use Rattle.codes.specs.Radio.{Radio, known, radioOf}
 use Rattle.codes.specs.Symbol.{valued, symbolOf}
 use Rattle.codes.proofs.Tests.{by-pick, not-both}
 use Rattle.frame.specs.Frame.{startOctet, perOctet}
-use Rattle.reader.specs.Order.{Answer, refused, done, both, ends, rules, values, verdict, concluded, taking, readingFrom, reading, whole}
+use Rattle.order.specs.Order.{Answer, refused, done, both, ends, rules, values, verdict, concluded, taking, readingFrom, reading, whole}
 use Rattle.reader.specs.Read.{answerAt}
-use Rattle.reader.specs.Received.{received}
+use Rattle.order.specs.Received.{received}
 
 -- those of the reading order
 abbrev pub refusals : List ℕ

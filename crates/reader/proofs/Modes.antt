@@ -15,13 +15,14 @@ use Rattle.codes.specs.Symbol.{symbolOf}
 use Rattle.codes.specs.declared.Symbol.{Symbol}
 use Rattle.codes.proofs.Modes.{row-test}
 use Rattle.codes.proofs.Facts.{sound}
-use Rattle.reader.specs.declared.Hand.{Hand}
-use Rattle.reader.specs.Order.{reading}
-use Rattle.reader.specs.Taking.{begun, stopped, advanced, followed, roomed, keptAt, Tells}
-use Rattle.reader.proofs.Raw.{size-pos}
-use Rattle.reader.proofs.Steps.{followed-stops, kept-stops}
-use Rattle.reader.proofs.Carried.{Carries}
-use Rattle.reader.proofs.Turns.{Open, Turned, next-hand, room-for-any}
+use Rattle.order.specs.declared.Hand.{Hand}
+use Rattle.order.specs.Order.{reading}
+use Rattle.order.specs.Taking.{begun, stopped, advanced, followed, roomed, keptAt}
+use Rattle.reader.specs.Telling.{Tells}
+use Rattle.order.proofs.Raw.{size-pos}
+use Rattle.order.proofs.Steps.{followed-stops, kept-stops}
+use Rattle.order.proofs.Carried.{Carries}
+use Rattle.order.proofs.Turns.{Open, Turned, next-hand, room-for-any}
 use Rattle.reader.proofs.Sofar.{Sofar, Ways, symbol-taken}
 use Rattle.reader.proofs.Scanning.{Scanning, Turning, scan-starts, scan-out, scan-bad, turned-scan}
 

@@ -14,11 +14,12 @@ use Rattle.codes.specs.Radio.{Radio, Sound}
 use Rattle.codes.specs.Symbol.{symbolOf}
 use Rattle.codes.specs.declared.Symbol.{Symbol}
 use Rattle.frame.specs.Frame.{perOctet}
-use Rattle.reader.specs.declared.Hand.{Hand}
-use Rattle.reader.specs.Order.{whole, reading}
-use Rattle.reader.specs.Taking.{begun, stopped, advanced, onward, roomed, keptIn, Tells}
-use Rattle.reader.proofs.Raw.{size-pos}
-use Rattle.reader.proofs.Windows.{window-next, window-is, window-out}
+use Rattle.order.specs.declared.Hand.{Hand}
+use Rattle.order.specs.Order.{whole, reading}
+use Rattle.order.specs.Taking.{begun, stopped, advanced, onward, roomed, keptIn}
+use Rattle.reader.specs.Telling.{Tells}
+use Rattle.order.proofs.Raw.{size-pos}
+use Rattle.order.proofs.Windows.{window-next, window-is, window-out}
 use Rattle.reader.proofs.Sofar.{Sofar, starts, out, bad-window, symbol-taken}
 
 pub record Scanning (r : Radio) (room : ℕ) (chips octets : List ℕ) (h : Hand) (at : ℕ) : Type 0 where

@@ -20,15 +20,16 @@ use Rattle.codes.specs.declared.Symbol.{Symbol}
 use Rattle.codes.proofs.Tests.{by-test}
 use Rattle.codes.proofs.Unique.{nochip-of}
 use Rattle.frame.specs.Frame.{perOctet}
-use Rattle.reader.specs.declared.Hand.{Hand}
-use Rattle.reader.specs.Received.{received, octetAt, octetsFrom}
-use Rattle.reader.specs.Order.{Answer, refused, done, values, lengthIn, reportIn, taking, readingFrom}
-use Rattle.reader.specs.Taking.{begun, stopped, advanced, onward, roomed, keptIn, handed, Tells}
-use Rattle.reader.proofs.Windows.{seen, seen-front, seen-next, rest, rest-more, rest-out}
-use Rattle.reader.proofs.Steps.{goes}
-use Rattle.reader.proofs.Carried.{Carries, carries-none}
-use Rattle.reader.proofs.Turns.{Open, open-begun, On, Over, Off, Turned, next-hand}
-use Rattle.reader.proofs.Gathered.{Gathered, kept-long, gathered-none, gathered-more, gathered-report}
+use Rattle.order.specs.declared.Hand.{Hand}
+use Rattle.order.specs.Received.{received, octetAt, octetsFrom}
+use Rattle.order.specs.Order.{Answer, refused, done, values, lengthIn, reportIn, taking, readingFrom}
+use Rattle.order.specs.Taking.{begun, stopped, advanced, onward, roomed, keptIn}
+use Rattle.reader.specs.Telling.{handed, Tells}
+use Rattle.order.proofs.Windows.{seen, seen-front, seen-next, rest, rest-more, rest-out}
+use Rattle.order.proofs.Steps.{goes}
+use Rattle.order.proofs.Carried.{Carries, carries-none}
+use Rattle.order.proofs.Turns.{Open, open-begun, On, Over, Off, Turned, next-hand}
+use Rattle.order.proofs.Gathered.{Gathered, kept-long, gathered-none, gathered-more, gathered-report}
 
 -- after s symbols
 abbrev pub upTo : Radio → List (List ℕ) → ℕ → List Symbol

@@ -14,11 +14,11 @@ use Rattle.codes.specs.Radio.{known, radioOf}
 use Rattle.codes.proofs.Tests.{by-test}
 use Rattle.frame.specs.Outcome.{outcome}
 use Rattle.frame.proofs.Over.{over-paste, over-front}
-use Rattle.reader.specs.declared.Hand.{Hand}
+use Rattle.order.specs.declared.Hand.{Hand}
 use Rattle.reader.specs.declared.Reading.{Reading}
-use Rattle.reader.specs.Order.{Answer, refused, done, reading}
+use Rattle.order.specs.Order.{Answer, refused, done, reading}
 use Rattle.reader.specs.Read.{told, left, answerAt, answered, readOf}
-use Rattle.reader.specs.Taking.{storedIn, toldBy, handed, Tells}
+use Rattle.reader.specs.Telling.{storedIn, toldBy, handed, Tells}
 
 -- the ways of `store`
 module _ (n : ℕ) (octets buffer : List ℕ) where

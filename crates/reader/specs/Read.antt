@@ -7,7 +7,7 @@ use Rattle.codes.specs.Chips.{pick}
 use Rattle.codes.specs.Radio.{known, radioOf}
 use Rattle.frame.specs.Outcome.{Outcome, outcome}
 use Rattle.reader.specs.declared.Reading.{Reading}
-use Rattle.reader.specs.Order.{Answer, refused, done, reading}
+use Rattle.order.specs.Order.{Answer, refused, done, reading}
 
 -- Done: place is the number of symbols in the frame, n is the length, the count is the number of
 -- chips repaired. Refused: place as in the reading order, n and count 0.

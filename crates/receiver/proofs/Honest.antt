@@ -7,8 +7,8 @@ use native.Mathlib.Omega.{arith}
 use borrow.Author.Tests.{lt-ltb, le-ltb, eq-eqb, ne-eqb}
 use Rattle.codes.specs.Numbers.{DONE, MORE}
 use Rattle.codes.specs.Radio.{known, radioOf}
-use Rattle.reader.specs.Taking.{Complete}
-use Rattle.reader.proofs.Turns.{Open}
+use Rattle.order.specs.Taking.{Complete}
+use Rattle.order.proofs.Turns.{Open}
 use Rattle.receiver.specs.declared.Receiver.{Receiver}
 use Rattle.receiver.specs.Record.{total, forged, handOf}
 

@@ -14,8 +14,9 @@ use Rattle.codes.specs.Radio.{known, radioOf}
 use Rattle.codes.specs.Symbol.{symbolOf}
 use Rattle.codes.proofs.Tests.{by-test}
 use Rattle.codes.proofs.Facts.{sound}
-use Rattle.reader.specs.Order.{Answer, refused, readingFrom}
-use Rattle.reader.specs.Taking.{followed, keptAt, Tells}
+use Rattle.order.specs.Order.{Answer, refused, readingFrom}
+use Rattle.order.specs.Taking.{followed, keptAt}
+use Rattle.reader.specs.Telling.{Tells}
 use Rattle.reader.proofs.Sofar.{Sofar, starts, out, handed-open, handed-refused, handed-done}
 use Rattle.reader.proofs.Modes.{symbol-followed}
 use Rattle.receiver.specs.declared.Receiver.{Receiver}

@@ -21,11 +21,12 @@ use Rattle.codes.proofs.Modes.{row-test}
 use Rattle.frame.specs.Frame.{perOctet}
 use Rattle.frame.specs.Outcome.{outcome}
 use Rattle.frame.proofs.Modes.{row-size}
-use Rattle.reader.specs.declared.Hand.{Hand}
+use Rattle.order.specs.declared.Hand.{Hand}
 use Rattle.reader.specs.declared.Reading.{Reading}
-use Rattle.reader.specs.Order.{Answer, refused, done}
+use Rattle.order.specs.Order.{Answer, refused, done}
 use Rattle.reader.specs.Read.{told, left}
-use Rattle.reader.specs.Taking.{followed, keptAt, storedIn}
+use Rattle.order.specs.Taking.{followed, keptAt}
+use Rattle.reader.specs.Telling.{storedIn}
 use Rattle.reader.proofs.Told.{stored, stored-none}
 use Rattle.receiver.specs.declared.Receiver.{Receiver}
 use Rattle.receiver.specs.Record.{

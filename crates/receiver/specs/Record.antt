@@ -15,11 +15,11 @@ use Rattle.codes.specs.Symbol.{symbolOf}
 use Rattle.codes.specs.declared.Symbol.{Symbol}
 use Rattle.frame.specs.Outcome.{Outcome}
 use Rattle.frame.specs.Frame.{perOctet}
-use Rattle.reader.specs.declared.Hand.{Hand}
+use Rattle.order.specs.declared.Hand.{Hand}
 use Rattle.reader.specs.declared.Reading.{Reading}
-use Rattle.reader.specs.Order.{Answer, refused, done, both}
+use Rattle.order.specs.Order.{Answer, refused, done, both}
 use Rattle.reader.specs.Read.{answered}
-use Rattle.reader.specs.Taking.{followed, keptAt}
+use Rattle.order.specs.Taking.{followed, keptAt}
 use Rattle.receiver.specs.declared.Receiver.{Receiver}
 use Rattle.receiver.specs.declared.Step.{Step}
 

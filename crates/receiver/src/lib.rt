@@ -139,9 +139,9 @@ impl Receiver {
     fn follow(self, symbol: codes::Symbol) -> Step
         ensures { λ r. ⌜ r ≡ tookSymbol self symbol ⌝ }
     {
-        let hand = reader::follow(self.mode, self.hand(), symbol);
+        let hand = order::follow(self.mode, self.hand(), symbol);
         let mut octets = self.octets;
-        reader::keep(self.mode, hand, &mut octets);
+        order::keep(self.mode, hand, &mut octets);
         Step {
             number: hand.number,
             receiver: Receiver {
@@ -158,10 +158,10 @@ impl Receiver {
     }
 
     // The numbers that the reader carries too.
-    fn hand(self) -> reader::Hand
+    fn hand(self) -> order::Hand
         ensures { λ r. ⌜ r ≡ handOf self ⌝ }
     {
-        reader::Hand {
+        order::Hand {
             number: self.ended,
             taken: self.taken,
             length: self.length,

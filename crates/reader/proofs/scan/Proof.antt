@@ -11,8 +11,8 @@ use Rattle.codes.specs.Radio.{radioOf}
 use Rattle.codes.specs.Symbol.{symbolOf}
 use Rattle.codes.proofs.Gathering.{Loop, loop-starts, loop-goes-on, loop-stops, loop-ends}
 use Rattle.frame.proofs.Modes.{row-size}
-use Rattle.reader.specs.Taking.{stopped, followed}
-use Rattle.reader.proofs.Steps.{followed-roomy}
+use Rattle.order.specs.Taking.{stopped, followed}
+use Rattle.order.proofs.Steps.{followed-roomy}
 use Rattle.reader.proofs.Scanning.{Scanning, Turning}
 use Rattle.reader.proofs.Modes.{size-positive, starts, runs-out, part-long, eights-stop, turns, refusal-ends}
 use Rattle.reader.proofs.scan.Statement.{statement}
@@ -21,8 +21,8 @@ use Rattle.reader.proofs.scan.Reads as reads
 use Rattle.reader.proofs.scan.Lts as lts
 use Rattle.codes.proofs.phy_of.Reads as phy-of-reads
 use Rattle.reader.proofs.gather_eight.Reads as gather-eight-reads
-use Rattle.reader.proofs.begin.Reads as begin-reads
-use Rattle.reader.proofs.stop.Reads as stop-reads
+use Rattle.order.proofs.begin.Reads as begin-reads
+use Rattle.order.proofs.stop.Reads as stop-reads
 use Rattle.reader.proofs.take_symbol.Reads as take-symbol-reads
 use Rattle.reader.proofs.settle.Reads as settle-reads
 

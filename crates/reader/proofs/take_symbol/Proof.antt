@@ -3,8 +3,8 @@ use mathlib.Core.Path.{ap, _∙_}
 use Rattle.matching.specs.Near.{judgedAt}
 use Rattle.codes.proofs.Modes.{unknown}
 use Rattle.matching.proofs.Judging.{near-symbol}
-use Rattle.reader.specs.Taking.{followed}
-use Rattle.reader.proofs.Steps.{follow-no-radio}
+use Rattle.order.specs.Taking.{followed}
+use Rattle.order.proofs.Steps.{follow-no-radio}
 use borrow.Author.Needs.{needs}
 use Rattle.reader.proofs.take_symbol.Statement.{statement}
 use Rattle.reader.proofs.take_symbol.Tie as tie

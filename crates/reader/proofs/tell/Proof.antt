@@ -1,7 +1,7 @@
 -- `tell` meets its contract: its tests are the definition's. Assumes nothing.
 use borrow.Author.Tests.{eq-eqb, ne-eqb}
 use Rattle.reader.specs.Read.{told}
-use Rattle.reader.specs.Taking.{toldBy}
+use Rattle.reader.specs.Telling.{toldBy}
 use borrow.Author.Needs.{needs}
 use Rattle.reader.proofs.tell.Statement.{statement}
 use Rattle.reader.proofs.tell.Tie as tie

@@ -18,15 +18,15 @@ use Rattle.codes.specs.declared.Symbol.{Symbol}
 use Rattle.codes.proofs.Tests.{by-test}
 use Rattle.codes.proofs.Unique.{of-symbol}
 use Rattle.frame.specs.Frame.{perOctet}
-use Rattle.reader.specs.declared.Hand.{Hand}
-use Rattle.reader.specs.Received.{received}
-use Rattle.reader.specs.Order.{Answer, done, ends, rules, values, repaired, verdict, reportIn, concluded, taking}
-use Rattle.reader.specs.Order as order
-use Rattle.reader.specs.Taking.{begun, stopped, rawFrom, shifted, lengthAfter, moved, onward, advanced, roomed, Complete}
-use Rattle.reader.proofs.Raw.{per-positive}
-use Rattle.reader.proofs.Rules.{Clear, length-few, rules-clear, rules-last, rules-before, rules-room}
-use Rattle.reader.proofs.Steps.{goes, stops}
-use Rattle.reader.proofs.Carried.{Carries, verdict-is, carries-more}
+use Rattle.order.specs.declared.Hand.{Hand}
+use Rattle.order.specs.Received.{received}
+use Rattle.order.specs.Order.{Answer, done, ends, rules, values, repaired, verdict, reportIn, concluded, taking}
+use Rattle.order.specs.Order as order
+use Rattle.order.specs.Taking.{begun, stopped, rawFrom, shifted, lengthAfter, moved, onward, advanced, roomed, Complete}
+use Rattle.order.proofs.Raw.{per-positive}
+use Rattle.order.proofs.Rules.{Clear, length-few, rules-clear, rules-last, rules-before, rules-room}
+use Rattle.order.proofs.Steps.{goes, stops}
+use Rattle.order.proofs.Carried.{Carries, verdict-is, carries-more}
 
 -- the hand wants more: it is before the end of its frame, whose report has room; so its numbers
 -- are small

@@ -12,9 +12,9 @@ use Rattle.codes.specs.Numbers.{DONE, NOROOM, PREAMBLE, BADSTART, MORE}
 use Rattle.codes.specs.Chips.{pick}
 use Rattle.codes.proofs.Tests.{by-test, not-both}
 use Rattle.frame.specs.Frame.{startOctet}
-use Rattle.reader.specs.declared.Hand.{Hand}
-use Rattle.reader.specs.Order.{both, ends, rules}
-use Rattle.reader.specs.Taking.{stopped, lengthAfter, preambled, moved, onward, roomed}
+use Rattle.order.specs.declared.Hand.{Hand}
+use Rattle.order.specs.Order.{both, ends, rules}
+use Rattle.order.specs.Taking.{stopped, lengthAfter, preambled, moved, onward, roomed}
 
 -- one test and another
 pub neither : (a b : Bool) → (a ≡ true → b ≡ false) → both a b ≡ false

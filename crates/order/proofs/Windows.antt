@@ -11,7 +11,7 @@ use Rattle.codes.specs.Numbers.{RUNOUT}
 use Rattle.codes.specs.Radio.{Radio}
 use Rattle.codes.specs.Symbol.{symbolOf}
 use Rattle.codes.specs.declared.Symbol.{Symbol}
-use Rattle.reader.specs.Order.{Answer, refused, window, windows, whole, taking, readingFrom}
+use Rattle.order.specs.Order.{Answer, refused, window, windows, whole, taking, readingFrom}
 
 module _ (r : Radio) (chips : List ℕ) where
   -- k windows are k lists

@@ -19,11 +19,11 @@ use Rattle.codes.specs.Phy.{phyOf, phyAt}
 use Rattle.codes.proofs.Modes.{each-row, phy-known}
 use Rattle.frame.specs.Frame.{perOctet}
 use Rattle.frame.proofs.Modes.{few-values}
-use Rattle.reader.specs.declared.Hand.{Hand}
-use Rattle.reader.specs.Order.{rules}
-use Rattle.reader.proofs.Rules.{inside-length, preamble-rules, preamble-fair}
-use Rattle.reader.specs.Taking.{stopped, rawBy, rawFrom, shiftedBy, shifted, lengthAfter, preambled, moved}
-use Rattle.reader.specs.Taking.{onward, advanced, followed, Roomy, keptIn, keptAt}
+use Rattle.order.specs.declared.Hand.{Hand}
+use Rattle.order.specs.Order.{rules}
+use Rattle.order.proofs.Rules.{inside-length, preamble-rules, preamble-fair}
+use Rattle.order.specs.Taking.{stopped, rawBy, rawFrom, shiftedBy, shifted, lengthAfter, preambled, moved}
+use Rattle.order.specs.Taking.{onward, advanced, followed, Roomy, keptIn, keptAt}
 
 -- a raw symbol is below 16
 pub raw-few : (mode last v : ℕ) → rawFrom (radioOf mode) last v < 16

@@ -1,24 +1,21 @@
 -- Not to be believed: what the code carries from symbol to symbol, a record of numbers. That the
 -- numbers are those of the symbols before is shown in proofs/Carried.antt, that following them is
--- the reading order in proofs/Turns.antt and proofs/Sofar.antt. It is total: whatever the numbers
+-- the reading order in proofs/Turns.antt. It is total: whatever the numbers
 -- are, they are reduced or wrap, and no sum overflows. The stepping receiver's push names
 -- `followed` and `keptAt`: of a forged record that passes its test they are all that is said.
 use mathlib.Core.Path.{_≡_}
 use mathlib.Core.Bool.{Bool, not}
 use Prim.Native.Nat.{ℕ, _+_, _-_, _*_, _/_, _%_, _^_, _≤_}
 use mathlib.Core.List.{List}
-use lib.ListN.{length, take, set}
-use lib.Seq.{paste}
+use lib.ListN.{set}
 use lib.Dec.{eqb, leb, ltb}
-use Rattle.codes.specs.Numbers.{DONE, BADMODE, NOROOM, RUNOUT, PREAMBLE, MORE}
+use Rattle.codes.specs.Numbers.{DONE, BADMODE, NOROOM, PREAMBLE, MORE}
 use Rattle.codes.specs.Chips.{pick}
 use Rattle.codes.specs.Radio.{Radio, known, radioOf}
 use Rattle.codes.specs.declared.Symbol.{Symbol}
 use Rattle.frame.specs.Frame.{perOctet}
-use Rattle.reader.specs.declared.Hand.{Hand}
-use Rattle.reader.specs.declared.Reading.{Reading}
-use Rattle.reader.specs.Order.{Answer, refused, done, both, ends, rules}
-use Rattle.reader.specs.Read.{told}
+use Rattle.order.specs.declared.Hand.{Hand}
+use Rattle.order.specs.Order.{both, ends, rules}
 
 -- before the first symbol
 abbrev pub begun : Hand
@@ -101,24 +98,6 @@ keptIn per h octets =
 unfoldable pub keptAt : ℕ → Hand → List ℕ → List ℕ
 keptAt mode h octets = pick (known mode) (onward (h .number) (keptIn (perOctet (radioOf mode)) h octets) octets) octets
 
--- the first n octets over the first n bytes of a buffer, as it was where there are not so many
--- of both
-unfoldable pub storedIn : ℕ → List ℕ → List ℕ → List ℕ
-storedIn n octets buffer = pick (ltb 127 n) buffer (pick (ltb (length buffer) n) buffer (paste buffer 0 octets n))
-
--- what is given back of a hand that has ended, or whose chips have run out
-unfoldable pub toldBy : Hand → Reading
-toldBy h =
-    pick (eqb (h .number) MORE) (told (refused RUNOUT (h .taken)))
-    (pick (eqb (h .number) DONE) (record { number = DONE; place = h .taken; n = h .length; count = h .count })
-    (told (refused (h .number) (h .taken))))
-
--- and as the reading order's answer, with the octets gathered
-unfoldable pub handed : Hand → List ℕ → Answer
-handed h octets =
-    pick (eqb (h .number) MORE) (refused RUNOUT (h .taken))
-    (pick (eqb (h .number) DONE) (done (h .taken) (take (h .length) octets) (h .count)) (refused (h .number) (h .taken)))
-
 -- all symbols of the hand's frame are taken, its report has room, and no more chips were repaired
 -- than the limit times the symbols taken
 pub record Complete (r : Radio) (room : ℕ) (h : Hand) : Type 0 where
@@ -126,9 +105,3 @@ pub record Complete (r : Radio) (room : ℕ) (h : Hand) : Type 0 where
   pub fits : h .length ≤ room
   pub few : h .length ≤ 127
   pub low : h .count ≤ r .limit * h .taken
-
--- the hand and the octets gathered tell the answer
-pub record Tells (r : Radio) (room : ℕ) (answer : Answer) (octets : List ℕ) (h : Hand) : Type 0 where
-  pub is : answer ≡ handed h octets
-  pub well : h .number ≡ DONE → Complete r room h
-  pub long : length octets ≡ 127

@@ -12,7 +12,7 @@ use Rattle.codes.specs.Radio.{Radio}
 use Rattle.codes.specs.Symbol.{symbolOf}
 use Rattle.codes.specs.declared.Symbol.{Symbol}
 use Rattle.frame.specs.Frame.{startOctet, perOctet}
-use Rattle.reader.specs.Received.{received, octetAt, octetsFrom}
+use Rattle.order.specs.Received.{received, octetAt, octetsFrom}
 
 -- refused with a number at a place; or done at a place, with the report and the number of
 -- chips repaired

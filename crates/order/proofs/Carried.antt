@@ -16,11 +16,11 @@ use Rattle.codes.specs.declared.Symbol.{Symbol}
 use Rattle.codes.proofs.Tests.{by-test}
 use Rattle.frame.specs.Frame.{perOctet}
 use Rattle.frame.proofs.Below.{Below, below-append}
-use Rattle.reader.specs.declared.Hand.{Hand}
-use Rattle.reader.specs.Received.{rawAfter, decode, received, octetAt}
-use Rattle.reader.specs.Order.{ends, rules, values, repaired, lengthIn, verdict}
-use Rattle.reader.specs.Taking.{begun, rawFrom, shifted, lengthAfter, moved}
-use Rattle.reader.proofs.Raw.{
+use Rattle.order.specs.declared.Hand.{Hand}
+use Rattle.order.specs.Received.{rawAfter, decode, received, octetAt}
+use Rattle.order.specs.Order.{ends, rules, values, repaired, lengthIn, verdict}
+use Rattle.order.specs.Taking.{begun, rawFrom, shifted, lengthAfter, moved}
+use Rattle.order.proofs.Raw.{
   lastOf,
   last-snoc,
   last-below,
@@ -33,7 +33,7 @@ use Rattle.reader.proofs.Raw.{
   per-positive,
   last-octet,
 }
-use Rattle.reader.proofs.Rules.{rules-same}
+use Rattle.order.proofs.Rules.{rules-same}
 
 -- the hand's numbers are those of the symbols before
 pub record Carries (r : Radio) (before : List Symbol) (h : Hand) : Type 0 where

@@ -1,13 +1,13 @@
 -- `advance` meets its contract: its tests are the definition's. Assumes nothing.
 use mathlib.Core.Path.{sym, _∙_}
 use mathlib.Core.Logic.{inl, inr, ⊎-elim}
-use Rattle.reader.specs.Taking.{stopped}
-use Rattle.reader.proofs.Steps.{goes, stops}
+use Rattle.order.specs.Taking.{stopped}
+use Rattle.order.proofs.Steps.{goes, stops}
 use borrow.Author.Needs.{needs}
 use borrow.Author.Tests.{eqb-true, eqb-false, not-true, not-false}
 use Rattle.codes.specs.Numbers.{DONE}
-use Rattle.reader.proofs.advance.Statement.{statement}
-use Rattle.reader.proofs.advance.Tie as tie
+use Rattle.order.proofs.advance.Statement.{statement}
+use Rattle.order.proofs.advance.Tie as tie
 
 stop-requires : tie.Need-stop-requires
 stop-requires c κs = search needs

@@ -38,8 +38,8 @@ use Rattle.codes.proofs.Tests.{by-test}
 use Rattle.frame.specs.Frame.{perOctet}
 use Rattle.frame.proofs.Count.{sent-below}
 use Rattle.frame.proofs.Below.{Below, below-take, below-drop}
-use Rattle.reader.specs.Received.{rawAfter, decode, valueOf, octetAt, octetsFrom}
-use Rattle.reader.specs.Taking.{shifted}
+use Rattle.order.specs.Received.{rawAfter, decode, valueOf, octetAt, octetsFrom}
+use Rattle.order.specs.Taking.{shifted}
 
 -- the last value, e before the first
 abbrev pub lastOf : ℕ → List ℕ → ℕ

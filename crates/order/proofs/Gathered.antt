@@ -13,12 +13,12 @@ use Rattle.codes.specs.Radio.{Radio, Sound}
 use Rattle.codes.specs.declared.Symbol.{Symbol}
 use Rattle.codes.proofs.Tests.{by-test}
 use Rattle.frame.specs.Frame.{perOctet}
-use Rattle.reader.specs.declared.Hand.{Hand}
-use Rattle.reader.specs.Received.{rawAfter, received, octetAt, octetsFrom}
-use Rattle.reader.specs.Order.{values}
-use Rattle.reader.specs.Taking.{keptIn}
-use Rattle.reader.proofs.Raw.{lastOf, decode-below, octet-stays, octets-long, octets-each, per-positive, last-octet}
-use Rattle.reader.proofs.Carried.{Carries, received-snoc, received-long}
+use Rattle.order.specs.declared.Hand.{Hand}
+use Rattle.order.specs.Received.{rawAfter, received, octetAt, octetsFrom}
+use Rattle.order.specs.Order.{values}
+use Rattle.order.specs.Taking.{keptIn}
+use Rattle.order.proofs.Raw.{lastOf, decode-below, octet-stays, octets-long, octets-each, per-positive, last-octet}
+use Rattle.order.proofs.Carried.{Carries, received-snoc, received-long}
 
 -- what keeping the octet in hand does to octet k
 module _ (per : ℕ) (p : 0 < per) (h : Hand) (octets : List ℕ) (k : ℕ) where
