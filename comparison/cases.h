@@ -54,8 +54,8 @@ void make_chips(struct made *made, uint32_t longest);
 /* The top bit of the length octet. */
 enum { RESERVED_BIT = 128 };
 
-/* The frame of a report, with the reserved bit or 0 in its length octet, each symbol as far from its
- * word as is accepted, the last one `more` chips farther. */
+/* The frame of a report, with the reserved bit or 0 in its length octet, each symbol as far from
+ * its word as is accepted, the last one `more` chips farther. */
 void make_edge_frame(struct made *made, uint32_t mode, uint32_t reserved, const uint8_t *report, uint32_t n, uint32_t more);
 
 /* One symbol's chips somewhere on the way from one word to another: between the two, or just within

@@ -236,7 +236,7 @@ static void try_taking(uint32_t mode, uint32_t n)
     check_take(record, n + 1);
 }
 
-/* The frame in hand, symbol by symbol, into rooms at the edge. */
+/* The frame in hand, symbol by symbol, taken into rooms at the edge. */
 static void try_pushing(void)
 {
     size_t size = reference_chips(made.mode), at;
@@ -260,7 +260,8 @@ static void try_frame(uint32_t mode, uint32_t reserved, const uint8_t *report, u
     if (n > 0)
         check_read(PLAIN, mode, made.chips, made.length, n - 1);
     check_read(PLAIN, mode, made.chips, made.length - 1, n);
-    try_pushing();
+    if (n < 4 || n > 125)
+        try_pushing();
     make_edge_frame(&made, mode, reserved, report, n, 1);
     check_read(PLAIN, mode, made.chips, made.length, 127);
 }
@@ -283,9 +284,9 @@ static void try_every_length(void)
     }
 }
 
-/* A report's check, and its frame as the plain writer makes it, with as many errors as accepted and
- * one more: the checked reader with a room that is too short, with one that isn't, and where a
- * later symbol is lost. */
+/* A report's check, its frame with the reserved bit set, and its frame as the plain writer makes
+ * it, with as many errors as accepted and one more: the checked reader with a room that is too
+ * short, with one that isn't, and where a later symbol is lost. */
 static void try_checked_reading(uint32_t mode, const uint8_t *report, uint32_t n)
 {
     check_check(report, n);

@@ -287,8 +287,8 @@ static inline uint32_t lernazhup_finish_into(lernazhup_receiver *receiver)
 }
 #endif
 
-/* What a number given back means, in the words of the list above; of any other number, that it is
- * none of them. Never a null pointer. */
+/* What a number given back means, in the words of the list above; of 9, that it is withdrawn; of
+ * any other number, that it is none of them. Never a null pointer. */
 const char *lernazhup_meaning(uint32_t number);
 
 /* The version of the library itself, as LERNAZHUP_VERSION is that of the header: whoever links the

@@ -210,10 +210,10 @@ lernazhup_reading best_read(uint32_t mode, const uint8_t *chips, size_t chips_le
         read_octets(mode, chips, HEADER, header, &progress);
     if (!fits(header, chips_len, octet_chips, report_len))
         return usual_read(mode, chips, chips_len, report, report_len);
-    read_octets(mode, chips + HEADER * octet_chips, header[5] & 127, octets, &progress);
+    reading.n = header[5] & 127;
+    read_octets(mode, chips + HEADER * octet_chips, reading.n, octets, &progress);
     if (!sound(&progress))
         return usual_read(mode, chips, chips_len, report, report_len);
-    reading.n = header[5] & 127;
     reading.place = (HEADER + reading.n) * (mode == 0 ? 8 : 2);
     reading.count = repaired(mode, reading.place, &progress);
     if (reading.n > 0)

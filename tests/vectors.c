@@ -437,7 +437,7 @@ static void header(const char *what, uint32_t mode, size_t room, uint8_t preambl
     size_t from = octet_at(mode, 6), to = octet_at(mode, 13);
     memset(chips, 255, LONGEST);
     lernazhup_write(mode, octets, sizeof octets, chips, LONGEST);
-    read_line(what, mode, slice(chips + from, to - from), slice(octets + 6, 1), room);
+    read_line(what, mode, slice(chips + from, to - from), slice(octets + 6, length % 128), room);
 }
 
 static void headers(uint32_t mode)
@@ -451,9 +451,9 @@ static void headers(uint32_t mode)
     header("length octet 0x80, no room", mode, 0, 0, 0xA7, 0x80);
 }
 
-/* A frame with the reserved bit set and so many wrong chips at the front of each symbol. In mode 0
- * the chain turns over there, and with it every chip that follows; in modes 1 and 2 the chips of odd
- * index in the length octet's last symbol turn. */
+/* A frame with the reserved bit set, and so many wrong chips at the front of each symbol. The bit's
+ * symbol is the length octet's last: in mode 0 the chain turns over at it, and with it every chip
+ * from there on; in modes 1 and 2 its chips of odd index turn. */
 static void reserved_line(const char *what, uint32_t mode, uint32_t octets, size_t room, size_t wrong)
 {
     uint8_t chips[LONGEST];
@@ -861,10 +861,10 @@ static void story(const char *what, struct frame frame, size_t end, size_t from)
     fates(", then", pushed(what, frame.read, chips, end), slice(chips + from, size));
 }
 
-/* Frames pushed whole, cut, and with a refusal of each kind. The last three have another symbol of
- * the frame in the place of one that a rule looks at: the first of the start octet as the last of
- * the preamble, the first of all as the last of the start octet, and the first of the report as the
- * last of the length octet, where it sets the top bit, which is reserved. */
+/* Frames pushed whole, cut, and with a symbol refused, of each kind. The last three have another
+ * symbol of the frame in the place of one: the first of the start octet as the last of the
+ * preamble, and the first of all as the last of the start octet, which are refused; and the first
+ * of the report as the last of the length octet, where it sets the reserved bit, which isn't. */
 static void stories(uint32_t mode)
 {
     struct frame five = frame_of(mode, 5), longest = frame_of(mode, 127);

@@ -25,5 +25,6 @@ pub empty-report : linesOf (frame oqpsk []) ≡
     49 ∷ 32 ∷ 48 ∷ 32 ∷ 49 ∷ 50 ∷ 32 ∷ 48 ∷ 32 ∷ 48 ∷ 10 ∷
     50 ∷ 32 ∷ 54 ∷ 32 ∷ 48 ∷ 32 ∷ 48 ∷ 32 ∷ 48 ∷ 10 ∷ []
 unfolding distance bad bpskWords oqpskWord oqpskWords lowbandWord lowbandWords turnedWords turns turned oddInverted within first valued symbolOf
-    digits raws encode symbolsWith chipsOf frameWith decode valueOf octetsFrom windows rules repaired concluded taking readingFrom reading told answerAt decimalIn
+    digits raws encode symbolsWith chipsOf frameWith decode valueOf octetsFrom windows rules repaired concluded taking readingFrom reading told answerAt
+    decimalIn
 empty-report = refl

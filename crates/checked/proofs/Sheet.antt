@@ -42,7 +42,7 @@ write-sheet = (refl, refl, refl, refl, refl, refl, refl)
 abbrev refusal : ℕ → ℕ → List ℕ → Outcome Reading
 refusal x place buffer = outcome (record { number = x; place = place; n = 0; count = 0 }) buffer
 
--- frames of mode 2, with the reserved bit so, read into a buffer
+-- frames of mode 2, with the reserved bit as given, read into a buffer
 abbrev readWith : ℕ → List ℕ → List ℕ → Outcome Reading
 readWith bit report buffer = readCheckedOf 2 (frameWith lowband bit report) buffer
 
@@ -63,8 +63,8 @@ unfolding distance bad lowbandWord lowbandWords turnedWords turns turned oddInve
     checkedAnswer allZero fcsOf registerAfter entered bits
 read-sheet = (refl, refl, refl, refl, refl)
 
--- With the reserved bit set the acknowledgement is read all the same, and into too short a buffer it
--- is 3.
+-- With the reserved bit set the acknowledgement is read all the same, and into too short a buffer
+-- it is 3.
 pub reserved-sheet : (readWith 1 (0x02 ∷ 0x00 ∷ 0x6A ∷ 0xE4 ∷ 0x79 ∷ []) (7 ∷ 7 ∷ 7 ∷ 7 ∷ 7 ∷ 9 ∷ [])
     ≡ outcome (record { number = 0; place = 22; n = 5; count = 0 }) (0x02 ∷ 0x00 ∷ 0x6A ∷ 0xE4 ∷ 0x79 ∷ 9 ∷ []))
     × (readWith 1 (0x02 ∷ 0x00 ∷ 0x6A ∷ 0xE4 ∷ 0x79 ∷ []) (7 ∷ 7 ∷ 7 ∷ 7 ∷ []) ≡ refusal 3 11 (7 ∷ 7 ∷ 7 ∷ 7 ∷ []))

@@ -1,27 +1,28 @@
--- Windows that begin with the symbols of one of a report's frames: where the report has room, their
--- reading answers it, and they have that frame's reserved bit. For any sound radio. Assumes nothing.
-use mathlib.Core.Path.{_≡_, sym, ap, _∙_}
+-- Windows that begin with the symbols of one of a report's frames: they have that frame's reserved
+-- bit, and where the report has room their reading answers it; where it has none, that is 3. For
+-- any sound radio. Assumes nothing.
+use mathlib.Core.Path.{_≡_, refl, sym, ap, _∙_}
 use mathlib.Core.List.{List, []}
 use Prim.Native.Nat.{ℕ, suc, _-_, _*_, _/_, _≤_, _<_}
-use native.Mathlib.Nat.{zero-add, add-mul}
+use native.Mathlib.Nat.{add-mul}
 use native.Mathlib.Omega.{arith}
 use lib.ListN.{length, take}
 use lib.Seq.{ext-getD, take-all}
+use Rattle.codes.specs.Numbers.{NOROOM}
 use Rattle.codes.specs.Radio.{Radio, Sound}
 use Rattle.codes.specs.declared.Symbol.{Symbol}
 use Rattle.frame.specs.Frame.{perOctet, octetsWith, raws, symbols, symbolsWith}
 use Rattle.frame.proofs.Chain.{encode-long}
 use Rattle.frame.proofs.Count.{raws-below, symbols-long, symbols-same}
 use Rattle.order.specs.Received.{decode, received, octetAt}
-use Rattle.order.specs.Order.{done, values, readingFrom}
-use Rattle.demands.specs.Words.{Report}
+use Rattle.order.specs.Order.{refused, done, values, readingFrom}
+use Rattle.demands.specs.Words.{Report, bitIn}
 use Rattle.demands.proofs.Back.{decode-take, decode-encode}
 use Rattle.order.proofs.Raw.{per-positive}
-use Rattle.demands.proofs.Path.{rawsTo, Run, ending, run-reading}
+use Rattle.demands.proofs.Path.{rawsTo, Run, ending, run-reading, run-refused}
 use Rattle.order.proofs.Windows.{seen}
-use Rattle.demands.proofs.Framed.{bit-in, report-in, framed-more, framed-done}
+use Rattle.demands.proofs.Framed.{bit-in, report-in, framed-more, framed-done, framed-short}
 use Rattle.demands.proofs.Stands.{Stands, values-long, values-at, values-take, octet-front}
-use Rattle.demands.proofs.Ended.{bitIn}
 
 module _ (r : Radio) (S : Sound r) (ws : List (List ℕ)) (bit : ℕ) (low : bit ≤ 1) (report : List ℕ) (P : Report report)
     (count : ℕ) (T : Stands r ws (symbolsWith r bit report) count) where
@@ -70,8 +71,8 @@ module _ (r : Radio) (S : Sound r) (ws : List (List ℕ)) (bit : ℕ) (low : bit
           from = omega arith;
           inside = omega (arith, T .enough);
           good = λ j u v. ap (λ (x : Symbol). x .number) (T .stands j (omega arith));
-          more = λ j u v. rw (raws-are j (omega arith)) (framed-more r S bit low report P room fits j (omega (arith, long)));
-          last = rw (raws-are k (omega arith)) (framed-done r S bit low report P room fits k (e ∙ long));
+          more = λ j u v. rw (raws-are j (omega arith)) (framed-more r S bit low report P room j (λ _. fits) (omega (arith, long)));
+          last = rw (raws-are k (omega arith)) (framed-done r S bit low report P room k (λ _. fits) (e ∙ long));
         }
 
     all-in : rawsTo r ws (suc k) ≡ all
@@ -81,9 +82,19 @@ module _ (r : Radio) (S : Sound r) (ws : List (List ℕ)) (bit : ℕ) (low : bit
     ends = rw (all-in, e, report-in r S bit low report P, ← T .total)
 
     answered-at : readingFrom r room [] ws ≡ done (length vs) report count
-    answered-at = run-reading r room ws k 0 k (zero-add k) run ∙ ends
+    answered-at = run-reading r room ws k run ∙ ends
 
   -- the reading answers the report
   pub windows-answer : (room : ℕ) → length report ≤ room → readingFrom r room [] ws ≡ done (length (symbols r report)) report count
   windows-answer room fits =
       answered-at room fits (length vs - 1) (omega (arith, headed, per-positive r S)) ∙ ap (λ (n : ℕ). done n report count) (symbols-same r bit report)
+
+  -- and refuses it at the last symbol of the length octet where there is too little
+  pub windows-short : (room : ℕ) → room < length report → readingFrom r room [] ws ≡ refused NOROOM (6 * perOctet r - 1)
+  windows-short room short =
+      let k = 6 * perOctet r - 1 in
+      let e : suc k ≡ 6 * perOctet r = omega (arith, per-positive r S) in
+      run-refused r room ws k NOROOM (omega (arith, headed, T .enough)) (λ j l. ap (λ (x : Symbol). x .number) (T .stands j (omega (arith, headed))))
+      (λ j l. rw (raws-are j (omega (arith, headed)))
+      (framed-more r S bit low report P room j (λ q. absurd (omega (arith, e))) (omega (arith, headed, long))))
+      (rw (raws-are k (omega (arith, headed))) (framed-short r S bit low report P room k short e)) refl refl

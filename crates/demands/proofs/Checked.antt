@@ -2,8 +2,9 @@
 -- the plain one does, but for a report that doesn't pass, which it refuses with the number of its
 -- first test, at the frame's number of symbols and with nothing stored. So it is done exactly when
 -- the plain reader is, with a report that passes; what it stores is never nothing but zeros; and
--- what the checked writer wrote it reads, FCS included, with the reserved bit set too. A refusal of either leaves every byte. And
--- the tests asked of what take gave answer the checked reader's number. Assumes nothing.
+-- what the checked writer wrote it reads, FCS included, with the reserved bit set too. A refusal of
+-- either leaves every byte. And the tests asked of what take gave answer the checked reader's
+-- number. Assumes nothing.
 use mathlib.Core.Path.{_≡_, refl, sym, ap, _∙_}
 use mathlib.Core.Logic.{_↔_}
 use mathlib.Core.Bool.{true, false}
@@ -42,7 +43,7 @@ use Rattle.demands.proofs.Demand1.{leaves, read-bad-mode, read-numbers,
 use Rattle.demands.proofs.Demand2.{reads-frames, read-back}
 use Rattle.demands.proofs.Demand3.{answer-room}
 use Rattle.demands.proofs.Path.{same-parts}
-use Rattle.demands.proofs.Given.{among-pass}
+use Rattle.demands.proofs.Among.{among-pass}
 use Rattle.demands.proofs.Stepped.{steps-read}
 use Rattle.demands.proofs.Reader.{told-done, success-answers, reads-report}
 
@@ -285,11 +286,11 @@ module _ (mode : ℕ) (k : known mode ≡ true) (report : List ℕ) (octets : Be
       }
 
   -- Each frame of it with its FCS, followed by anything, is read.
-  pub checked-reads-frames : (frame more buffer : List ℕ) → OneOf (frames (radioOf mode) (withFcs report)) frame → length report + 2 ≤ length buffer
-      → readCheckedOf mode (frame ++ more) buffer ≡ success mode buffer (withFcs report) 0
-  checked-reads-frames frame more buffer m l =
-      checked-done mode (frame ++ more) buffer (withFcs report) 0 .1
-      (reads-frames mode k (withFcs report) frame more buffer (with-report report octets short) m (omega (arith, with-long report)), with-passes)
+  pub checked-reads-frames : (sent more buffer : List ℕ) → OneOf (frames (radioOf mode) (withFcs report)) sent → length report + 2 ≤ length buffer
+      → readCheckedOf mode (sent ++ more) buffer ≡ success mode buffer (withFcs report) 0
+  checked-reads-frames sent more buffer m l =
+      checked-done mode (sent ++ more) buffer (withFcs report) 0 .1
+      (reads-frames mode k (withFcs report) sent more buffer (with-report report octets short) m (omega (arith, with-long report)), with-passes)
 
   pub checked-read-back : (chips buffer : List ℕ) → length (frame (radioOf mode) (withFcs report)) ≤ length chips → length report + 2 ≤ length buffer
       → readCheckedOf mode (writtenChecked mode report chips .buffer) buffer ≡ success mode buffer (withFcs report) 0

@@ -4,21 +4,22 @@
 -- sound radio, both directions; that it is a report (at most 127 numbers below 256) is concluded in
 -- one and supposed in the other. That frame is the one which the length octet's symbols read as,
 -- and the chips are near no other. Besides: the count is the sum of the differences in the symbols'
--- windows, the place of an answer is the number of the frame's symbols, and an answered report has
--- room. Assumes nothing.
+-- windows, the place of an answer is the number of the frame's symbols, an answered report has
+-- room, and without room it is 3. Assumes nothing.
 use mathlib.Core.Path.{_≡_, sym, ap, _∙_, subst}
 use mathlib.Core.Logic.{_↔_}
-use mathlib.Core.List.{List}
-use Prim.Native.Nat.{ℕ, _≤_}
+use mathlib.Core.List.{List, []}
+use Prim.Native.Nat.{ℕ, _-_, _*_, _≤_, _<_}
 use lib.ListN.{length}
+use Rattle.codes.specs.Numbers.{NOROOM}
 use Rattle.codes.specs.Radio.{Radio, Sound}
-use Rattle.frame.specs.Frame.{symbols, frameWith}
+use Rattle.frame.specs.Frame.{perOctet, symbols, frameWith}
 use Rattle.frame.proofs.Count.{symbols-same}
-use Rattle.order.specs.Order.{done, whole, reading}
-use Rattle.demands.specs.Words.{Report, frames, OneOf, frameRead, Answers, Near, NearOne, differences}
+use Rattle.order.specs.Order.{refused, done, whole, readingFrom, reading}
+use Rattle.demands.specs.Words.{Report, frames, OneOf, frameRead, Answers, Near, NearOne, differences, bitIn}
 use Rattle.demands.proofs.Frames.{sum-of-windows, one-of, Bit, bit-of}
-use Rattle.demands.proofs.Ended.{bitIn, reading-heard}
-use Rattle.demands.proofs.Answered.{bit-read, windows-answer}
+use Rattle.demands.proofs.Ended.{reading-heard}
+use Rattle.demands.proofs.Answered.{bit-read, windows-answer, windows-short}
 use Rattle.demands.proofs.Close.{stands-near, near-stands}
 
 module _ (r : Radio) (S : Sound r) (room : ℕ) (chips report : List ℕ) (count : ℕ) where
@@ -29,6 +30,9 @@ module _ (r : Radio) (S : Sound r) (room : ℕ) (chips report : List ℕ) (count
   pub answer-room : Answers r room chips report count → length report ≤ room
   unfolding reading
   answer-room a = reading-heard r S room (whole r chips) _ count report a .fits
+
+  as-frame : (N : NearOne r chips report count) (bit : ℕ) → N .frame ≡ frameWith r bit report → Near r chips (frameWith r bit report) count
+  as-frame N bit e = subst (λ (f : List ℕ). Near r chips f count) e (N .near)
 
   -- The chips are near that one of the report's frames which they read as.
   pub answer-frame : Answers r room chips report count → OneOf (frames r report) (frameRead r chips report) × Near r chips (frameRead r chips report) count
@@ -48,7 +52,15 @@ module _ (r : Radio) (S : Sound r) (room : ℕ) (chips report : List ℕ) (count
   )
     where
       go : Report report → (N : NearOne r chips report count) → Bit r report (N .frame) → Answers r room chips report count
-      go p N (bit, low, e) = windows-answer r S (whole r chips) bit low report p count (near-stands r S chips bit report count (subst (λ (f : List ℕ). Near r chips f count) e (N .near))) room h
+      go p N (bit, low, e) = windows-answer r S (whole r chips) bit low report p count (near-stands r S chips bit report count (as-frame N bit e)) room h
+
+  -- With too little room such chips are refused with 3, on the last symbol of the length octet.
+  pub no-room : room < length report → Report report → NearOne r chips report count → reading r room chips ≡ refused NOROOM (6 * perOctet r - 1)
+  unfolding reading
+  no-room h p n = go (bit-of r report (n .frame) (n .member))
+    where
+      go : Bit r report (n .frame) → readingFrom r room [] (whole r chips) ≡ refused NOROOM (6 * perOctet r - 1)
+      go (bit, low, e) = windows-short r S (whole r chips) bit low report p count (near-stands r S chips bit report count (as-frame n bit e)) room h
 
   -- the count of an answer is the sum over the symbols' windows
   pub count-of-windows : Answers r room chips report count → count ≡ differences r chips (frameRead r chips report) (length (symbols r report))

@@ -1,5 +1,6 @@
 -- A reading that is done: the windows begin with the symbols of one of a report's frames, the one
--- with the reserved bit that they have; it is that report that is answered, and it has room. For any sound radio. Assumes nothing.
+-- with the reserved bit that they have; it is that report that is answered, and it has room. For
+-- any sound radio. Assumes nothing.
 use mathlib.Core.Path.{_≡_, refl, sym, ap, _∙_}
 use mathlib.Core.Logic.{_⊎_, inl, inr, ⊎-elim}
 use mathlib.Core.List.{List, []}
@@ -16,9 +17,9 @@ use Rattle.codes.proofs.Unique.{Reads, of-symbol}
 use Rattle.frame.specs.Frame.{octetsWith, perOctet, raws, encode, symbols, symbolsWith}
 use Rattle.frame.proofs.Count.{symbols-same}
 use Rattle.frame.proofs.Below.{Below, at-below}
-use Rattle.order.specs.Received.{decode, received, octetAt}
+use Rattle.order.specs.Received.{decode, octetAt}
 use Rattle.order.specs.Order.{done, values, repaired, lengthIn, verdict, reportIn, readingFrom}
-use Rattle.demands.specs.Words.{Report}
+use Rattle.demands.specs.Words.{Report, bitIn}
 use Rattle.demands.proofs.Back.{decode-take, encode-decode}
 use Rattle.order.proofs.Raw.{decode-long, decode-below}
 use Rattle.order.proofs.Rules.{Clear, rules-clear, rules-last}
@@ -26,10 +27,6 @@ use Rattle.demands.proofs.Path.{rawsTo, Run, ending, same-parts, readin
 use Rattle.order.proofs.Windows.{seen}
 use Rattle.demands.proofs.Found.{found-room, found-bit, found-report, found-raws}
 use Rattle.demands.proofs.Stands.{Stands, values-long, values-at, values-take, octet-front}
-
--- the reserved bit that the windows' symbols have
-abbrev pub bitIn : Radio → List (List ℕ) → ℕ
-bitIn r ws = octetAt r 5 (received r (values (seen r ws))) / 128
 
 -- what a reading of windows that is done says
 pub record Heard (r : Radio) (room : ℕ) (ws : List (List ℕ)) (place : ℕ) (report : List ℕ) (count : ℕ) : Type 0 where

@@ -26,7 +26,8 @@ use Rattle.receiver.proofs.Ways.{number-of-symbols, forged-no-radio, forged-lon
 use Rattle.receiver.proofs.Ways.{push-forged, push-ended, finish-forged, finish-ended, finish-open, takes-forged, takes-open, takes-refused}
 use Rattle.demands.specs.Calls.{Call, pushing, finishing, taking, called, after, tells, Idle}
 use Rattle.demands.specs.Calls.{Faulty, no-radio, too-long, too-many-repaired, misfits, FaultyOpen, FaultyWell}
-use Rattle.demands.proofs.Given.{among-pass, ofSymbol, push-ways, took-given, finish-ways, takes-ways}
+use Rattle.demands.proofs.Among.{among-pass}
+use Rattle.demands.proofs.Given.{ofSymbol, push-ways, took-given, finish-ways, takes-ways}
 use Rattle.demands.proofs.Made.{holds-no, passes, made}
 
 -- ---- 34 is the number of a forged record, whatever is called

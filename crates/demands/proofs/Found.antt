@@ -1,5 +1,6 @@
 -- Raw symbols at which nothing is wrong, as many as the length octet says, are those of a frame of
--- the report in them: the one with the reserved bit that they have. For any sound radio. Assumes nothing.
+-- the report in them: the one with the reserved bit that they have. For any sound radio. Assumes
+-- nothing.
 use mathlib.Core.Path.{_≡_, sym, _∙_}
 use mathlib.Core.List.{List}
 use Prim.Native.Nat.{ℕ, suc, _+_, _-_, _*_, _/_, _^_, _≤_, _<_}

@@ -1,24 +1,26 @@
--- The raw symbols of one of a report's frames, at each of them what the rules say, and the report that is
--- in them. For any sound radio. Assumes nothing.
+-- The raw symbols of one of a report's frames, at each of them what the rules say, and the report
+-- that is in them. For any sound radio. Assumes nothing.
 use mathlib.Core.Path.{_≡_, refl, sym, ap, _∙_}
+use mathlib.Core.Bool.{not}
 use mathlib.Core.List.{List, [], _∷_, _++_}
 use Prim.Native.Nat.{ℕ, suc, _+_, _*_, _/_, _%_, _^_, _≤_, _<_}
 use native.Mathlib.Nat.{add-mul}
 use native.Mathlib.Omega.{arith}
 use lib.ListN.{length, getD, take, drop}
 use lib.Seq.{getD-take}
-use borrow.Author.Tests.{eq-eqb, ne-eqb}
-use Rattle.codes.specs.Numbers.{DONE, MORE}
+use lib.Dec.{eqb, ltb}
+use borrow.Author.Tests.{eq-eqb, ne-eqb, eqb-true, ltb-true, lt-ltb}
+use Rattle.codes.specs.Numbers.{DONE, NOROOM, MORE}
 use Rattle.codes.specs.Radio.{Radio, Sound}
 use Rattle.frame.specs.Frame.{startOctet, octetsWith, perOctet, rawOf, raws}
 use Rattle.frame.proofs.Count.{digits-nought, raws-long}
 use Rattle.frame.proofs.Below.{Below, below-append, at-below, below-at}
 use Rattle.frame.proofs.Parts.{before}
 use Rattle.order.specs.Received.{octetAt, octetsFrom}
-use Rattle.order.specs.Order.{lengthIn, verdict, reportIn}
+use Rattle.order.specs.Order.{ends, rules, lengthIn, verdict, reportIn}
 use Rattle.demands.specs.Words.{Report}
 use Rattle.demands.proofs.Octet.{octets-raws, octet-take}
-use Rattle.order.proofs.Rules.{Clear, clear-rules}
+use Rattle.order.proofs.Rules.{neither, Clear, clear-rules}
 
 -- raw symbols of octets that are 0 are 0
 nought : (r : Radio) → Below 1 (raws r (0 ∷ 0 ∷ 0 ∷ 0 ∷ []))
@@ -27,6 +29,18 @@ nought r = z _ (z _ (z _ (z [] tt)))
   where
     z : (bs : List ℕ) → Below 1 bs → Below 1 (rawOf r 0 ++ bs)
     z bs p = below-append 1 (rawOf r 0) bs (digits-nought (perOctet r) (2 ^ r .bits)) p
+
+-- where nothing else is wrong, too little room is 3 on the last symbol of the length octet
+rules-room-3 : (per room s raw start n : ℕ) → (s < 4 * per → raw ≡ 0) → (suc s ≡ 5 * per → start ≡ startOctet) → suc s ≡ 6 * per → room < n
+    → rules per room s raw start n ≡ NOROOM
+unfolding rules
+rules-room-3 per room s raw start n p b e l =
+    rw (
+      neither (ltb s (4 * per)) (not (eqb raw 0)) (λ t. rw (eq-eqb raw 0 (p (ltb-true _ _ t)))),
+      neither (ends per 4 s) (not (eqb start startOctet)) (λ t. rw (eq-eqb start startOctet (b (eqb-true _ _ t)))),
+      eq-eqb (suc s) (6 * per) e,
+      lt-ltb room n l,
+    )
 
 module _ (r : Radio) (S : Sound r) (bit : ℕ) (low : bit ≤ 1) (report : List ℕ) (R : Report report) where
   abbrev all : List ℕ
@@ -74,35 +88,42 @@ module _ (r : Radio) (S : Sound r) (bit : ℕ) (low : bit ≤ 1) (report : List 
       let g : getD all s 0 ≡ getD (raws r (0 ∷ 0 ∷ 0 ∷ 0 ∷ [])) s 0 = sym (getD-take (4 * perOctet r) all s 0 h) ∙ ap (λ (xs : List ℕ). getD xs s 0) e in
       omega (arith, g, below-at 1 (raws r (0 ∷ 0 ∷ 0 ∷ 0 ∷ [])) (nought r) s (omega (arith, raws-long r (0 ∷ 0 ∷ 0 ∷ 0 ∷ []))))
 
-  module _ (room : ℕ) (fits : length report ≤ room) (s : ℕ) where
+  module _ (room s : ℕ) where
     abbrev upto : List ℕ
     upto = take (suc s) all
 
     length-upto : 6 * perOctet r ≤ suc s → lengthIn r upto ≡ length report
     length-upto h = ap (λ (x : ℕ). x % 128) (octet-take r 5 (suc s) all h) ∙ length-in
 
-    clear : Clear (perOctet r) room s (getD upto s 0) (octetAt r 4 upto) (lengthIn r upto)
-    clear =
-        record {
-          preamble = λ h. getD-take (suc s) all s 0 (omega arith) ∙ preamble-in s h;
-          started = λ e. octet-take r 4 (suc s) all (omega arith) ∙ start-in;
-          fits = λ e. omega (arith, length-upto (omega arith), fits);
-        }
+    raw-clear : s < 4 * perOctet r → getD upto s 0 ≡ 0
+    raw-clear h = getD-take (suc s) all s 0 (omega arith) ∙ preamble-in s h
 
-    -- before the last symbol more is wanted
-    pub framed-more : suc s < length all → verdict r room s upto ≡ MORE
-    framed-more h =
-        clear-rules (perOctet r) room s _ _ _ clear
-        ∙ rw (ne-eqb (suc s) ((6 + lengthIn r upto) * perOctet r) (λ e. early e))
-      where
-        early : suc s ≡ (6 + lengthIn r upto) * perOctet r → ⊥
-        early e =
-            let l : 6 * perOctet r ≤ suc s = omega (arith, add-mul 6 (lengthIn r upto) (perOctet r)) in
-            omega (arith, ap (λ (n : ℕ). (6 + n) * perOctet r) (length-upto l), all-long)
+    start-clear : suc s ≡ 5 * perOctet r → octetAt r 4 upto ≡ startOctet
+    start-clear e = octet-take r 4 (suc s) all (omega arith) ∙ start-in
 
-    -- and the reading is done on it
-    pub framed-done : suc s ≡ length all → verdict r room s upto ≡ DONE
-    framed-done h =
-        let l : 6 * perOctet r ≤ suc s = omega (arith, all-long, add-mul 6 (length report) (perOctet r)) in
-        clear-rules (perOctet r) room s _ _ _ clear
-        ∙ rw (eq-eqb (suc s) ((6 + lengthIn r upto) * perOctet r) (h ∙ all-long ∙ ap (λ (n : ℕ). (6 + n) * perOctet r) (sym (length-upto l))))
+    -- with too little room the last symbol of the length octet is refused with 3
+    pub framed-short : room < length report → suc s ≡ 6 * perOctet r → verdict r room s upto ≡ NOROOM
+    framed-short l e =
+        rules-room-3 (perOctet r) room s _ _ _ raw-clear start-clear e (omega (arith, l, length-upto (omega arith)))
+
+    module _ (fits : suc s ≡ 6 * perOctet r → length report ≤ room) where
+      clear : Clear (perOctet r) room s (getD upto s 0) (octetAt r 4 upto) (lengthIn r upto)
+      clear = record { preamble = raw-clear; started = start-clear; fits = λ e. omega (arith, length-upto (omega arith), fits e) }
+
+      -- before the last symbol more is wanted
+      pub framed-more : suc s < length all → verdict r room s upto ≡ MORE
+      framed-more h =
+          clear-rules (perOctet r) room s _ _ _ clear
+          ∙ rw (ne-eqb (suc s) ((6 + lengthIn r upto) * perOctet r) (λ e. early e))
+        where
+          early : suc s ≡ (6 + lengthIn r upto) * perOctet r → ⊥
+          early e =
+              let l : 6 * perOctet r ≤ suc s = omega (arith, add-mul 6 (lengthIn r upto) (perOctet r)) in
+              omega (arith, ap (λ (n : ℕ). (6 + n) * perOctet r) (length-upto l), all-long)
+
+      -- and the reading is done on it
+      pub framed-done : suc s ≡ length all → verdict r room s upto ≡ DONE
+      framed-done h =
+          let l : 6 * perOctet r ≤ suc s = omega (arith, all-long, add-mul 6 (length report) (perOctet r)) in
+          clear-rules (perOctet r) room s _ _ _ clear
+          ∙ rw (eq-eqb (suc s) ((6 + lengthIn r upto) * perOctet r) (h ∙ all-long ∙ ap (λ (n : ℕ). (6 + n) * perOctet r) (sym (length-upto l))))

@@ -2,22 +2,26 @@
 -- of chips 0 and 1. Nearness to a frame depends on no chip after it, and the distance of a whole
 -- prefix from it is the sum over the windows. For any sound radio. Assumes nothing.
 use mathlib.Core.Path.{_≡_, refl, sym, ap, _∙_}
-use mathlib.Core.Bool.{false}
-use mathlib.Core.Logic.{inl, inr, ⊎-elim}
-use mathlib.Core.List.{List, [], _∷_}
+use mathlib.Core.Bool.{true, false}
+use mathlib.Core.Logic.{inl, inr}
+use mathlib.Core.List.{List, [], _∷_, map}
 use Prim.Native.Nat.{ℕ, zero, suc, _*_, _^_, _≤_, _<_}
 use native.Mathlib.Nat.{mul-le-mul-right, le-of-mul-le-mul-right}
 use native.Mathlib.Omega.{arith}
 use lib.ListN.{length, getD, take}
 use lib.Seq.{take-all}
-use Rattle.codes.specs.Chips.{distance, bad}
+use lib.Dec.{eqb, leb}
+use borrow.Author.Tests.{eqb-true, eq-eqb, leb-true}
+use Rattle.codes.specs.Chips.{distance, bad, among}
 use Rattle.codes.specs.Radio.{Radio, Sound, word}
+use Rattle.codes.proofs.Tests.{by-test, not-both}
 use Rattle.codes.proofs.Chips.{bad-append}
 use Rattle.frame.specs.Frame.{symbolsWith, chipsOf, frameWith}
 use Rattle.frame.proofs.Count.{symbols-below, frame-size, frame-long}
 use Rattle.frame.proofs.Below.{Below, below-at}
 use Rattle.order.specs.Order.{window}
-use Rattle.demands.specs.Words.{frames, OneOf, Near, differences}
+use Rattle.demands.specs.Words.{bits, frames, OneOf, Near, differences}
+use Rattle.demands.proofs.Among.{among-pass}
 use Rattle.order.proofs.Raw.{size-pos}
 use Rattle.demands.proofs.Fronts.{window-same, front-distance, word-window}
 
@@ -79,18 +83,34 @@ near-same r chips others frame count h e n =
 
 -- ---- the frames of a report
 
+-- what is made of each of some numbers
+module _ (f : ℕ → List ℕ) where
+  made-of : (ns : List ℕ) (n : ℕ) → among n ns ≡ true → OneOf (map f ns) (f n)
+  made-of [] n t = not-both false t refl
+  made-of (x ∷ ns) n t = by-test (eqb n x) (λ e. inl (ap f (eqb-true n x e))) (λ e. inr (made-of ns n (rw e at t)))
+
+  of-made : (ns : List ℕ) (y : List ℕ) → OneOf (map f ns) y → (n : ℕ) × (among n ns ≡ true) × (y ≡ f n)
+  of-made [] y m = absurd m
+  of-made (x ∷ ns) y (inl e) = (x, rw (eq-eqb x x refl), e)
+  of-made (x ∷ ns) y (inr m) = let o = of-made ns y m in
+      (o .0, by-test (eqb (o .0) x) (λ t. rw t) (λ t. rw t (o .1)), o .2)
+
 -- they are those with the reserved bit 0 or 1
 module _ (r : Radio) (report : List ℕ) where
   pub one-of : (bit : ℕ) → bit ≤ 1 → OneOf (frames r report) (frameWith r bit report)
-  one-of zero h = inl refl
-  one-of (suc zero) h = inr (inl refl)
-  one-of (suc (suc bit)) h = absurd (omega arith)
+  one-of bit h = made-of (λ (b : ℕ). frameWith r b report) bits bit (low bit h)
+    where
+      low : (b : ℕ) → b ≤ 1 → among b bits ≡ true
+      low zero h = refl
+      low (suc zero) h = refl
+      low (suc (suc b)) h = absurd (omega arith)
 
   abbrev pub Bit : List ℕ → Type 0
   Bit frame = (bit : ℕ) × (bit ≤ 1) × (frame ≡ frameWith r bit report)
 
   pub bit-of : (frame : List ℕ) → OneOf (frames r report) frame → Bit frame
-  bit-of frame = ⊎-elim (λ e. (0, omega arith, e)) (⊎-elim (λ e. (1, omega arith, e)) (λ n. absurd n))
+  bit-of frame m = let o = of-made (λ (b : ℕ). frameWith r b report) bits frame m in
+      (o .0, leb-true _ _ (among-pass (λ b. leb b 1) bits refl (o .0) (o .1)), o .2)
 
 -- each is of chips 0 and 1, and as long as the one that is written
 module _ (r : Radio) (S : Sound r) (report frame : List ℕ) (m : OneOf (frames r report) frame) where

@@ -1,7 +1,7 @@
 -- The numbers that the stepping receiver's calls give back: those that document 01's table has for
 -- each. And what a refusal leaves. Assumes nothing.
 use mathlib.Core.Path.{_≡_, refl, ap, _∙_}
-use mathlib.Core.Bool.{Bool, true, false, not}
+use mathlib.Core.Bool.{true, false, not}
 use mathlib.Core.List.{List, [], _∷_}
 use mathlib.Core.Logic.{_⊎_, inl, inr}
 use Prim.Native.Nat.{ℕ, _+_, _*_, _≤_}
@@ -9,11 +9,11 @@ use lib.ListN.{length, take}
 use lib.Dec.{eqb, ltb}
 use borrow.Author.Tests.{eqb-true, eqb-false, not-false}
 use Rattle.codes.specs.Numbers.{DONE, BADMODE, NOROOM, RUNOUT, NOCHIP, LOST, PREAMBLE, BADSTART, ENDED, BADPART, NOTENDED, MORE, FORGED}
-use Rattle.codes.specs.Chips.{pick, among, bad}
+use Rattle.codes.specs.Chips.{among, bad}
 use Rattle.codes.specs.Radio.{Radio, known, radioOf}
 use Rattle.codes.specs.Symbol.{valued, symbolOf}
 use Rattle.codes.specs.declared.Symbol.{Symbol}
-use Rattle.codes.proofs.Tests.{by-pick, by-test, not-both}
+use Rattle.codes.proofs.Tests.{by-pick, not-both}
 use Rattle.frame.specs.Frame.{startOctet, perOctet}
 use Rattle.order.specs.declared.Hand.{Hand}
 use Rattle.order.specs.Order.{Answer, refused, done, both, ends, rules}
@@ -25,20 +25,8 @@ use Rattle.receiver.specs.declared.Receiver.{Receiver}
 use Rattle.receiver.specs.declared.Step.{Step}
 use Rattle.receiver.specs.Record.{step, startOf, isOpen, endedWell, forged, handOf, held, tookSymbol, pushOf, endedWith, finishOf, roomFor, takes, takeOf}
 use Rattle.receiver.proofs.Ways.{passed-known}
+use Rattle.demands.proofs.Among.{among-pass}
 use Rattle.demands.proofs.Demand1.{leaves}
-
--- every number of a list passes a test
-abbrev pub pass : (ℕ → Bool) → List ℕ → Bool
-pass p [] = true
-pass p (x ∷ xs) = pick (p x) (pass p xs) false
-
--- then so does one that is among them
-pub among-pass : (p : ℕ → Bool) (xs : List ℕ) → pass p xs ≡ true → (x : ℕ) → among x xs ≡ true → p x ≡ true
-among-pass p [] t x m = not-both false m refl
-among-pass p (y ∷ ys) t x m =
-    by-test (p y)
-    (λ a. by-test (eqb x y) (λ e. rw (eqb-true x y e) a) (λ e. among-pass p ys (rw a at t) x (rw e at m)))
-    (λ a. not-both false (rw a at t) refl)
 
 -- those of a symbol in hand: go on, done, or refused
 abbrev pub ofSymbol : List ℕ

@@ -2,6 +2,7 @@
 -- Demand3 and, from it, PutRight, NoFlat, OneAnswer and Reader; of the stepping receiver Stepped,
 -- Stray, Forged, Holds and Given; of the checked profile Checked and Misread; of the reserved bit
 -- TurnsOver and Withdrawn. Each opens with what it says in plain words.
+pub mod Among
 pub mod Digits
 pub mod Back
 pub mod Octet

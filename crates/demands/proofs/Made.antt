@@ -30,7 +30,8 @@ use Rattle.receiver.specs.Record.{startOf, either, forged, handOf, tookSymbol}
 use Rattle.receiver.proofs.Ways.{forged-refused}
 use Rattle.receiver.proofs.Honest.{open-honest, complete-honest}
 use Rattle.demands.specs.Calls.{Call, pushing, finishing, taking, called, after}
-use Rattle.demands.proofs.Given.{among-pass, ofSymbol, push-ways, took-given, finish-ways}
+use Rattle.demands.proofs.Among.{among-pass}
+use Rattle.demands.proofs.Given.{ofSymbol, push-ways, took-given, finish-ways}
 
 -- the numbers that end a record
 abbrev endings : List ℕ

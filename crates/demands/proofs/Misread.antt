@@ -1,8 +1,8 @@
 -- A frame of a report with its FCS, the one that the checked writer wrote or that with the reserved
 -- bit set, of which one symbol of the report or of its FCS is read as another value, is refused
--- with 15. What is then read is the frame of another report, as long as the one sent: the raw symbols differ at that symbol and, in a chained radio, at the next, so the
--- bits differ within one run of 16, and the FCS of the other is wrong. For any sound radio. Assumes
--- nothing.
+-- with 15. What is then read is the frame of another report, as long as the one sent: the raw
+-- symbols differ at that symbol and, in a chained radio, at the next, so the bits differ within one
+-- run of 16, and the FCS of the other is wrong. For any sound radio. Assumes nothing.
 use mathlib.Core.Path.{_≡_, refl, sym, ap, ap₂, _∙_}
 use mathlib.Core.Bool.{true}
 use mathlib.Core.List.{List, [], _∷_, _++_}
@@ -56,7 +56,8 @@ raw-elsewhere r last (u ∷ vs) (suc s) v (suc j) n m = raw-elsewhere r u vs s v
 
 -- One of a report's frames, and its symbols but for one after the length octet, which is
 -- another value.
-module _ (r : Radio) (S : Sound r) (bit : ℕ) (low : bit ≤ 1) (report : List ℕ) (P : Report report) (s v : ℕ) (h : 6 * perOctet r ≤ s) (below : v < 2 ^ r .bits) where
+module _ (r : Radio) (S : Sound r) (bit : ℕ) (low : bit ≤ 1) (report : List ℕ) (P : Report report)
+    (s v : ℕ) (h : 6 * perOctet r ≤ s) (below : v < 2 ^ r .bits) where
   abbrev vs : List ℕ
   vs = symbolsWith r bit report
 
@@ -146,7 +147,8 @@ module _ (r : Radio) (S : Sound r) (bit : ℕ) (low : bit ≤ 1) (report : List 
   -- so the report's bits differ within a run of 16
   pub bits-within : (i : ℕ) → (getD (bits report) i 0 ≡ getD (bits other) i 0 → ⊥) → (s * r .bits - 48 ≤ i) × (i < s * r .bits - 48 + 16)
   bits-within i n =
-      let w = within-two (r .bits) (bits-pos r S) bits-few (raws r (octetsWith bit report)) (raws r (octetsWith bit other)) s differ-two (48 + i) (λ e. n (shifted e)) in
+      let w =
+      within-two (r .bits) (bits-pos r S) bits-few (raws r (octetsWith bit report)) (raws r (octetsWith bit other)) s differ-two (48 + i) (λ e. n (shifted e)) in
       (omega (arith, w .0, w .1, sent-after), omega (arith, w .0, w .1, sent-after))
     where
       shifted : getD (bitsOf (r .bits) (raws r (octetsWith bit report))) (48 + i) 0 ≡ getD (bitsOf (r .bits) (raws r (octetsWith bit other))) (48 + i) 0
@@ -174,7 +176,8 @@ module _ (r : Radio) (S : Sound r) (chips vs : List ℕ) (A : ReadAs r chips vs)
       }
 
 -- A checked frame of which one symbol, of the report or of its FCS, is read as another value.
-module _ (mode : ℕ) (k : known mode ≡ true) (bit : ℕ) (low : bit ≤ 1) (report : List ℕ) (o : Below 256 report) (one : 1 ≤ length report) (short : length report ≤ 125)
+module _ (mode : ℕ) (k : known mode ≡ true) (bit : ℕ) (low : bit ≤ 1)
+    (report : List ℕ) (o : Below 256 report) (one : 1 ≤ length report) (short : length report ≤ 125)
     (s v : ℕ) (h : 6 * perOctet (radioOf mode) ≤ s) (l : s < length (symbolsWith (radioOf mode) bit (withFcs report)))
     (n : v ≡ getD (symbolsWith (radioOf mode) bit (withFcs report)) s 0 → ⊥)
     (chips : List ℕ) (A : ReadAs (radioOf mode) chips (set (symbolsWith (radioOf mode) bit (withFcs report)) s v)) where

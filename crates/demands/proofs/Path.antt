@@ -1,10 +1,12 @@
 -- A reading that is done is a run of symbols: each is read, the rules want more after each but the
--- last, and are done after that. Both ways, for any radio. Assumes nothing.
+-- last, and are done after that. Both ways, for any radio; and a reading that rules refuse after
+-- such symbols ends there. Assumes nothing.
 use mathlib.Core.Path.{_≡_, sym, ap, _∙_}
+use mathlib.Core.Bool.{false}
 use mathlib.Core.Logic.{⊎-elim}
 use mathlib.Core.List.{List, []}
 use Prim.Native.Nat.{ℕ, zero, suc, _+_, _≤_, _<_}
-use native.Mathlib.Nat.{eq-or-lt-of-le}
+use native.Mathlib.Nat.{eq-or-lt-of-le, zero-add}
 use native.Mathlib.Omega.{arith}
 use lib.Dec.{eqb}
 use lib.ListN.{length, getD, take}
@@ -65,17 +67,33 @@ module _ (r : Radio) (room : ℕ) (ws : List (List ℕ)) where
   unfolding taking
   step m h = rest-more r ws room m h ∙ rw (← seen-next r ws m h, seen-front r ws m (omega arith))
 
-  -- a run's reading is done at its last symbol
-  pub run-reading : (n m k : ℕ) → m + n ≡ k → Run r room ws m k → rest r ws room m ≡ ending r ws k
+  -- symbols that are read, and after each of which more is wanted, are passed
+  passed-to : (n m k : ℕ) → m + n ≡ k → k ≤ length ws → ((j : ℕ) → m ≤ j → j < k → symbolOf r (getD ws j []) .number ≡ DONE)
+      → ((j : ℕ) → m ≤ j → j < k → verdict r room j (rawsTo r ws (suc j)) ≡ MORE) → rest r ws room m ≡ rest r ws room k
   unfolding concluded
-  run-reading zero m k e R =
-      let q : m ≡ k = omega arith in
-      rw q (step k (R .inside) ∙ rw (eq-eqb _ DONE (R .good k (R .from) (omega arith)), R .last))
-  run-reading (suc n) m k e R =
-      step m (omega (arith, R .inside))
-      ∙ rw (eq-eqb _ DONE (R .good m (omega arith) (omega arith)), R .more m (omega arith) (omega arith))
-      (run-reading n (suc m) k (omega arith)
-      (record { from = omega arith; inside = R .inside; good = λ j h. R .good j (omega arith); more = λ j h. R .more j (omega arith); last = R .last }))
+  passed-to zero m k e h good more = let q : m ≡ k = omega arith in rw q
+  passed-to (suc n) m k e h good more =
+      step m (omega arith)
+      ∙ rw (eq-eqb _ DONE (good m (omega arith) (omega arith)), more m (omega arith) (omega arith))
+      (passed-to n (suc m) k (omega arith) h (λ j u. good j (omega arith)) (λ j u. more j (omega arith)))
+
+  -- a run's reading is done at its last symbol
+  pub run-reading : (k : ℕ) → Run r room ws 0 k → rest r ws room 0 ≡ ending r ws k
+  unfolding concluded
+  run-reading k R =
+      passed-to k 0 k (zero-add k) (omega (arith, R .inside)) (λ j u v. R .good j u (omega arith)) (R .more)
+      ∙ step k (R .inside)
+      ∙ rw (eq-eqb _ DONE (R .good k (R .from) (omega arith)), R .last)
+
+  -- and one that the rules refuse there ends there
+  pub run-refused : (k x : ℕ) → k < length ws → ((j : ℕ) → j ≤ k → symbolOf r (getD ws j []) .number ≡ DONE)
+      → ((j : ℕ) → j < k → verdict r room j (rawsTo r ws (suc j)) ≡ MORE) → verdict r room k (rawsTo r ws (suc k)) ≡ x
+      → eqb x MORE ≡ false → eqb x DONE ≡ false → rest r ws room 0 ≡ refused x k
+  unfolding concluded
+  run-refused k x h good more e m d =
+      passed-to k 0 k (zero-add k) (omega arith) (λ j u v. good j (omega arith)) (λ j u. more j)
+      ∙ step k h
+      ∙ rw (eq-eqb _ DONE (good k (omega arith)), e, m, d)
 
   -- a reading that is done is that of a run
   pub reading-run : (n m place count : ℕ) (report : List ℕ) → m + n ≡ length ws

@@ -1,25 +1,25 @@
 -- Demand 3 of the reader's whole outcome, answer and report buffer, in a mode that has a radio:
 -- what is shown of the reading is so of the reader; putting a wrong chip right lowers its count by
 -- one; no frame that it accepts holds a flat symbol; a reader that gives number 0 has read a
--- report; and a report is read alike into any buffer with room. Assumes nothing.
+-- report; and a report is read alike into any buffer with room, and is 3 without. Assumes nothing.
 use mathlib.Core.Path.{_≡_, refl, sym, ap, _∙_}
 use mathlib.Core.Logic.{_↔_}
 use mathlib.Core.Bool.{true}
 use mathlib.Core.List.{List, _++_}
-use Prim.Native.Nat.{ℕ, suc, _≤_, _<_}
+use Prim.Native.Nat.{ℕ, suc, _-_, _*_, _≤_, _<_}
 use lib.ListN.{length, getD, set, take, drop, replicate}
 use lib.Seq.{take-at}
-use Rattle.codes.specs.Numbers.{DONE}
+use Rattle.codes.specs.Numbers.{DONE, NOROOM}
 use Rattle.codes.specs.Radio.{known, radioOf}
 use Rattle.codes.proofs.Facts.{sound, unflat}
-use Rattle.frame.specs.Outcome.{Outcome}
-use Rattle.frame.specs.Frame.{symbols}
+use Rattle.frame.specs.Outcome.{Outcome, outcome}
+use Rattle.frame.specs.Frame.{perOctet, symbols}
 use Rattle.reader.specs.declared.Reading.{Reading}
 use Rattle.order.specs.Order.{Answer, refused, done, window, reading}
 use Rattle.reader.specs.Read.{told, left, answerAt, answered, readOf}
 use Rattle.demands.specs.Words.{Report, frames, OneOf, Answers, Near, NearOne, success}
 use Rattle.reader.proofs.Fair.{Told, answer-told, Fair, answer-fair, done-unfair}
-use Rattle.demands.proofs.Demand3.{answer-place, answer-room, demand-3}
+use Rattle.demands.proofs.Demand3.{answer-place, answer-room, demand-3, no-room}
 use Rattle.demands.proofs.PutRight.{put-right}
 use Rattle.demands.proofs.NoFlat.{no-flat}
 
@@ -53,6 +53,13 @@ module _ (mode : ℕ) (k : known mode ≡ true) (chips buffer report : List ℕ)
   reads-report h =
       let d = demand-3 (radioOf mode) (sound mode) (length buffer) chips report count h in
       (λ o. d .0 (success-answers .0 o), λ n. success-answers .1 (d .1 n))
+
+  -- With too little room it is then 3, on the last symbol of the length octet, with nothing stored.
+  pub reads-no-room : length buffer < length report → Report report → NearOne (radioOf mode) chips report count
+      → readOf mode chips buffer ≡ outcome (record { number = NOROOM; place = 6 * perOctet (radioOf mode) - 1; n = 0; count = 0 }) buffer
+  unfolding answerAt told left
+  reads-no-room h p n =
+      rw (k, no-room (radioOf mode) (sound mode) (length buffer) chips report count h p n)
 
 -- A report that the reader answers.
 module _ (mode : ℕ) (k : known mode ≡ true) (chips buffer report : List ℕ) (count : ℕ) (o : readOf mode chips buffer ≡ success mode buffer report count) where

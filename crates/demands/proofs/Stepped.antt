@@ -29,7 +29,8 @@ use Rattle.demands.specs.Calls.{Call, pushing, called, after, stray, cou
 use Rattle.receiver.proofs.Stepping.{Going, Gone, start-going, start-gone, honest, going-open, finish-gone, push-going}
 use Rattle.demands.proofs.Demand3.{answer-place, answer-room}
 use Rattle.demands.proofs.Reader.{reads-report}
-use Rattle.demands.proofs.Given.{among-pass, ofSymbol, took-given}
+use Rattle.demands.proofs.Among.{among-pass}
+use Rattle.demands.proofs.Given.{ofSymbol, took-given}
 use Rattle.demands.proofs.Stray.{no-difference}
 
 -- every one of these calls answers something else than 10, 11 and 12

@@ -12,7 +12,8 @@ use Rattle.receiver.specs.declared.Receiver.{Receiver}
 use Rattle.receiver.specs.declared.Step.{Step}
 use Rattle.receiver.specs.Record.{tookSymbol}
 use Rattle.demands.specs.Calls.{Call, pushing, finishing, taking, called, after, numbers, stray, others, counted}
-use Rattle.demands.proofs.Given.{among-pass, ofSymbol, push-ways, took-given, finish-ways}
+use Rattle.demands.proofs.Among.{among-pass}
+use Rattle.demands.proofs.Given.{ofSymbol, push-ways, took-given, finish-ways}
 
 -- such a call gives the record back as it was
 stray-same : (c : Receiver) (x : Call) → stray (called c x .number) ≡ true → called c x .receiver ≡ c

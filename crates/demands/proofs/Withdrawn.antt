@@ -4,10 +4,9 @@
 use mathlib.Core.Path.{_≡_, refl, sym, ap, _∙_}
 use mathlib.Core.Bool.{true, false}
 use mathlib.Core.List.{List, [], _∷_}
-use mathlib.Core.Logic.{_⊎_, ⊎-elim}
+use mathlib.Core.Logic.{⊎-elim}
 use Prim.Native.Nat.{ℕ}
 use native.Mathlib.Omega.{arith}
-use lib.ListN.{length}
 use Rattle.codes.specs.Numbers.{DONE, BADMODE, TOOLONG, NOROOM, RUNOUT, NOCHIP, LOST, PREAMBLE, BADSTART, ENDED, BADPART, NOTENDED, MORE, TOOFEW}
 use Rattle.codes.specs.Numbers.{BADCHECK, ALLZERO, FORGED}
 use Rattle.codes.specs.Chips.{among}
@@ -29,7 +28,7 @@ use Rattle.demands.proofs.Checked.{checked-write-numbers, checked-read-
 other : (ns : List ℕ) → among 9 ns ≡ false → (x : ℕ) → among x ns ≡ true → x ≡ 9 → ⊥
 other ns f x t e = not-both (among 9 ns) (rw e at t) f
 
--- Writer and reader, of either profile, and the check of a report.
+-- Writer and reader, of either profile.
 module _ (mode : ℕ) (xs buffer : List ℕ) where
   pub write-never : written mode xs buffer .answer .number ≡ 9 → ⊥
   write-never = other (DONE ∷ BADMODE ∷ TOOLONG ∷ NOROOM ∷ []) refl _ (write-numbers mode xs buffer)
@@ -45,8 +44,9 @@ module _ (mode : ℕ) (xs buffer : List ℕ) where
       other (DONE ∷ BADMODE ∷ NOROOM ∷ RUNOUT ∷ NOCHIP ∷ LOST ∷ PREAMBLE ∷ BADSTART ∷ TOOFEW ∷ BADCHECK ∷ ALLZERO ∷ []) refl _
       (checked-read-numbers mode xs buffer)
 
-  pub check-never : checkOf xs ≡ 9 → ⊥
-  check-never = other (DONE ∷ TOOFEW ∷ BADCHECK ∷ ALLZERO ∷ []) refl _ (check-numbers xs)
+-- The check of a report.
+pub check-never : (octets : List ℕ) → checkOf octets ≡ 9 → ⊥
+check-never octets = other (DONE ∷ TOOFEW ∷ BADCHECK ∷ ALLZERO ∷ []) refl _ (check-numbers octets)
 
 -- Start, and push and finish of every record.
 pub start-never : (mode : ℕ) → startOf mode .number ≡ 9 → ⊥

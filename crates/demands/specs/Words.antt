@@ -22,19 +22,27 @@ pub record Report (report : List ℕ) : Type 0 where
   pub short : length report ≤ 127
   pub octets : (i : ℕ) → i < length report → getD report i 0 < 256
 
--- A report's frames: as it is written, and with the reserved bit set.
+-- the reserved bit of a length octet: as it is written, and as others may set it
+abbrev pub bits : List ℕ
+bits = 0 ∷ 1 ∷ []
+
+-- a report's frames, one for each
 abbrev pub frames : Radio → List ℕ → List (List ℕ)
-frames r report = frameWith r 0 report ∷ frameWith r 1 report ∷ []
+frames r report = map (λ (bit : ℕ). frameWith r bit report) bits
 
 -- one of a list
 abbrev pub OneOf : List (List ℕ) → List ℕ → Type 0
 OneOf [] x = ⊥
 OneOf (y ∷ ys) x = (x ≡ y) ⊎ OneOf ys x
 
--- that one of a report's frames which the length octet's symbols in the chips read as: octet 5 of
--- their raw symbols has its reserved bit
+-- the reserved bit as the symbols in windows have it: the top bit of octet 5, the length octet, of
+-- their raw symbols
+abbrev pub bitIn : Radio → List (List ℕ) → ℕ
+bitIn r ws = octetAt r 5 (received r (values (map (symbolOf r) ws))) / 128
+
+-- that one of a report's frames which the length octet's symbols in the chips read as
 abbrev pub frameRead : Radio → List ℕ → List ℕ → List ℕ
-frameRead r chips report = frameWith r (octetAt r 5 (received r (values (map (symbolOf r) (whole r chips)))) / 128) report
+frameRead r chips report = frameWith r (bitIn r (whole r chips)) report
 
 -- chips, each of them inverted
 abbrev pub inverse : List ℕ → List ℕ

@@ -1,7 +1,7 @@
 -- The bench sheet of document 01, A to L, shown of the definitions together in one statement, and
 -- beside it those of its lines that mode 2 has. Assumes nothing.
 use mathlib.Core.Path.{_≡_, refl}
-use mathlib.Core.List.{List, [], _∷_}
+use mathlib.Core.List.{List, [], _∷_, _++_}
 use Prim.Native.Nat.{ℕ, zero, suc, _-_, _≤_, _<_}
 use native.Mathlib.Omega.{arith}
 use lib.ListN.{length, take, drop, replicate}
@@ -11,7 +11,9 @@ use Rattle.codes.specs.Radio.{Radio, word, bpsk, oqpsk, lowband}
 use Rattle.codes.specs.Radio.{bpskWords, oqpskWord, oqpskWords, lowbandWord, lowbandWords, turnedWords, turns, turned, oddInverted}
 use Rattle.codes.specs.Symbol.{refused, reads, within, first, valued, symbolOf}
 use Rattle.codes.proofs.Facts.{oqpsk-flat, lowband-flat}
-use Rattle.frame.specs.Frame.{octets, octetsWith, digits, raws, encode, symbols, symbolsWith, frame}
+use Rattle.frame.specs.Outcome.{outcome}
+use Rattle.frame.specs.Frame.{octetsWith, digits, raws, encode, symbols, symbolsWith, chipsOf, frame, frameWith}
+use Rattle.frame.specs.Write.{written}
 use Rattle.frame.proofs.Count.{bpsk-chips, oqpsk-chips, lowband-chips}
 
 -- chips with the first k inverted
@@ -105,9 +107,10 @@ lowband-bench =
       L = λ report h. omega (arith, lowband-chips 0 report);
     }
 
--- The octets of a frame in numerals: of two octets as they are written, and with the reserved bit
--- set; of none, with it.
-pub octets-sheet : (octets (1 ∷ 2 ∷ []) ≡ 0 ∷ 0 ∷ 0 ∷ 0 ∷ 0xA7 ∷ 0x02 ∷ 1 ∷ 2 ∷ [])
+-- What the writer leaves of two octets in mode 2, in numerals: a length octet of 2, its reserved
+-- bit 0, and a byte behind the frame as it was. And the octets of a frame with that bit set.
+pub written-sheet : (written 2 (1 ∷ 2 ∷ []) (replicate 257 9)
+    ≡ outcome (record { number = 0; chips = 256 }) (chipsOf lowband (0 ∷ 0 ∷ 0 ∷ 0 ∷ 0 ∷ 0 ∷ 0 ∷ 0 ∷ 7 ∷ 10 ∷ 2 ∷ 0 ∷ 1 ∷ 0 ∷ 2 ∷ 0 ∷ []) ++ 9 ∷ []))
     × (octetsWith 1 (1 ∷ 2 ∷ []) ≡ 0 ∷ 0 ∷ 0 ∷ 0 ∷ 0xA7 ∷ 0x82 ∷ 1 ∷ 2 ∷ [])
-    × (octetsWith 1 [] ≡ 0 ∷ 0 ∷ 0 ∷ 0 ∷ 0xA7 ∷ 0x80 ∷ [])
-octets-sheet = (refl, refl, refl)
+unfolding written lowbandWords turnedWords turns turned oddInverted lowbandWord digits raws encode symbolsWith chipsOf frameWith
+written-sheet = (refl, refl)

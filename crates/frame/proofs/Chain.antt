@@ -31,7 +31,8 @@ module _ (r : Radio) where
     abbrev all : List ℕ
     all = raws r (octetsWith bit report)
 
-    pub symbols-next : (j : ℕ) → suc j < length all → getD (symbolsWith r bit report) (suc j) 0 ≡ sent r (getD (symbolsWith r bit report) j 0) (getD all (suc j) 0)
+    pub symbols-next : (j : ℕ) → suc j < length all
+        → getD (symbolsWith r bit report) (suc j) 0 ≡ sent r (getD (symbolsWith r bit report) j 0) (getD all (suc j) 0)
     unfolding symbolsWith
     symbols-next j h = encode-next 0 all j h
 

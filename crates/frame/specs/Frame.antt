@@ -53,7 +53,7 @@ unfoldable pub chipsOf : Radio → List ℕ → List ℕ
 chipsOf r [] = []
 chipsOf r (v ∷ vs) = word r v ++ chipsOf r vs
 
--- the frame of a report, with the reserved bit so
+-- the frame of a report, with the reserved bit as given
 unfoldable pub frameWith : Radio → ℕ → List ℕ → List ℕ
 frameWith r bit report = chipsOf r (symbolsWith r bit report)
 

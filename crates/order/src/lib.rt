@@ -1,8 +1,8 @@
-// The reading order, one symbol at a time: what is carried from symbol to symbol, the hand, and what
-// a symbol's match makes of it. The hand's numbers are those of the symbols before
+// The reading order, one symbol at a time: what is carried from symbol to symbol, the hand, and
+// what a symbol's match makes of it. The hand's numbers are those of the symbols before
 // (proofs/Carried.antt), so that what follows from them is what the reading order says of all of
-// these (proofs/Turns.antt). The reader's loop and the stepping receiver's push take a symbol by the
-// same functions.
+// these (proofs/Turns.antt). The reader's loop and the stepping receiver's push take a symbol by
+// the same functions.
 ghost use mathlib.Core.Path.{_≡_};
 ghost use mathlib.Core.Bool.{true};
 ghost use Prim.Native.Nat.{_≤_, _<_, _%_};

@@ -21,7 +21,7 @@ use Rattle.codes.proofs.Tests.{by-test}
 use Rattle.codes.proofs.Unique.{nochip-of}
 use Rattle.frame.specs.Frame.{perOctet}
 use Rattle.order.specs.declared.Hand.{Hand}
-use Rattle.order.specs.Received.{received, octetAt, octetsFrom}
+use Rattle.order.specs.Received.{received, octetsFrom}
 use Rattle.order.specs.Order.{Answer, refused, done, values, lengthIn, reportIn, taking, readingFrom}
 use Rattle.order.specs.Taking.{begun, stopped, advanced, onward, roomed, keptIn}
 use Rattle.reader.specs.Telling.{handed, Tells}
