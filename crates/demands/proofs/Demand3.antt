@@ -31,6 +31,7 @@ module _ (r : Radio) (S : Sound r) (room : ℕ) (chips report : List ℕ) (count
   unfolding reading
   answer-room a = reading-heard r S room (whole r chips) _ count report a .fits
 
+  -- nearness to one of the frames, in the words of its bit
   as-frame : (N : NearOne r chips report count) (bit : ℕ) → N .frame ≡ frameWith r bit report → Near r chips (frameWith r bit report) count
   as-frame N bit e = subst (λ (f : List ℕ). Near r chips f count) e (N .near)
 

@@ -20,7 +20,7 @@ use Rattle.frame.specs.Frame.{symbolsWith, chipsOf, frameWith}
 use Rattle.frame.proofs.Count.{symbols-below, frame-size, frame-long}
 use Rattle.frame.proofs.Below.{Below, below-at}
 use Rattle.order.specs.Order.{window}
-use Rattle.demands.specs.Words.{bits, frames, OneOf, Near, differences}
+use Rattle.demands.specs.Words.{reservedBits, frames, OneOf, Near, differences}
 use Rattle.demands.proofs.Among.{among-pass}
 use Rattle.order.proofs.Raw.{size-pos}
 use Rattle.demands.proofs.Fronts.{window-same, front-distance, word-window}
@@ -98,9 +98,9 @@ module _ (f : ℕ → List ℕ) where
 -- they are those with the reserved bit 0 or 1
 module _ (r : Radio) (report : List ℕ) where
   pub one-of : (bit : ℕ) → bit ≤ 1 → OneOf (frames r report) (frameWith r bit report)
-  one-of bit h = made-of (λ (b : ℕ). frameWith r b report) bits bit (low bit h)
+  one-of bit h = made-of (λ (b : ℕ). frameWith r b report) reservedBits bit (low bit h)
     where
-      low : (b : ℕ) → b ≤ 1 → among b bits ≡ true
+      low : (b : ℕ) → b ≤ 1 → among b reservedBits ≡ true
       low zero h = refl
       low (suc zero) h = refl
       low (suc (suc b)) h = absurd (omega arith)
@@ -109,8 +109,8 @@ module _ (r : Radio) (report : List ℕ) where
   Bit frame = (bit : ℕ) × (bit ≤ 1) × (frame ≡ frameWith r bit report)
 
   pub bit-of : (frame : List ℕ) → OneOf (frames r report) frame → Bit frame
-  bit-of frame m = let o = of-made (λ (b : ℕ). frameWith r b report) bits frame m in
-      (o .0, leb-true _ _ (among-pass (λ b. leb b 1) bits refl (o .0) (o .1)), o .2)
+  bit-of frame m = let o = of-made (λ (b : ℕ). frameWith r b report) reservedBits frame m in
+      (o .0, leb-true _ _ (among-pass (λ b. leb b 1) reservedBits refl (o .0) (o .1)), o .2)
 
 -- each is of chips 0 and 1, and as long as the one that is written
 module _ (r : Radio) (S : Sound r) (report frame : List ℕ) (m : OneOf (frames r report) frame) where

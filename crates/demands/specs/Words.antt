@@ -23,12 +23,12 @@ pub record Report (report : List ℕ) : Type 0 where
   pub octets : (i : ℕ) → i < length report → getD report i 0 < 256
 
 -- the reserved bit of a length octet: as it is written, and as others may set it
-abbrev pub bits : List ℕ
-bits = 0 ∷ 1 ∷ []
+abbrev pub reservedBits : List ℕ
+reservedBits = 0 ∷ 1 ∷ []
 
 -- a report's frames, one for each
 abbrev pub frames : Radio → List ℕ → List (List ℕ)
-frames r report = map (λ (bit : ℕ). frameWith r bit report) bits
+frames r report = map (λ (bit : ℕ). frameWith r bit report) reservedBits
 
 -- one of a list
 abbrev pub OneOf : List (List ℕ) → List ℕ → Type 0
@@ -60,7 +60,7 @@ pub record Near (r : Radio) (chips frame : List ℕ) (count : ℕ) : Type 0 wher
   pub near : (s : ℕ) → suc s * r .size ≤ length frame → distance (window r chips s) (window r frame s) ≤ r .limit
   pub sum : count ≡ distance (take (length frame) chips) frame
 
--- they do so with one of the report's frames
+-- the chips do so with one of the report's frames
 pub record NearOne (r : Radio) (chips report : List ℕ) (count : ℕ) : Type 0 where
   pub frame : List ℕ
   pub member : OneOf (frames r report) frame
