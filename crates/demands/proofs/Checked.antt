@@ -2,9 +2,9 @@
 -- the plain one does, but for a report that doesn't pass, which it refuses with the number of its
 -- first test, at the frame's number of symbols and with nothing stored. So it is done exactly when
 -- the plain reader is, with a report that passes; what it stores is never nothing but zeros; and
--- what the checked writer wrote it reads, FCS included, with the reserved bit set too. A refusal of
--- either leaves every byte. And the tests asked of what take gave answer the checked reader's
--- number. Assumes nothing.
+-- what the checked writer wrote it reads, FCS included, and that frame with the reserved bit set,
+-- too. A refusal of either leaves every byte. And the tests asked of what take gave answer the
+-- checked reader's number. Assumes nothing.
 use mathlib.Core.Path.{_≡_, refl, sym, ap, _∙_}
 use mathlib.Core.Logic.{_↔_}
 use mathlib.Core.Bool.{true, false}

@@ -1,8 +1,8 @@
 -- The bench sheet of document 01, A to L, shown of the definitions together in one statement, and
 -- beside it those of its lines that mode 2 has. Assumes nothing.
-use mathlib.Core.Path.{_≡_, refl}
+use mathlib.Core.Path.{_≡_, refl, ap}
 use mathlib.Core.List.{List, [], _∷_, _++_}
-use Prim.Native.Nat.{ℕ, zero, suc, _-_, _≤_, _<_}
+use Prim.Native.Nat.{ℕ, zero, suc, _+_, _-_, _*_, _≤_, _<_}
 use native.Mathlib.Omega.{arith}
 use lib.ListN.{length, take, drop, replicate}
 use Rattle.codes.specs.Numbers.{LOST}
@@ -106,6 +106,14 @@ lowband-bench =
       K = λ report. refl;
       L = λ report h. omega (arith, lowband-chips 0 report);
     }
+
+-- The length octet of every frame that is written is n, its reserved bit 0.
+pub written-plain : (r : Radio) (report : List ℕ)
+    → frame r report ≡ chipsOf r (encode r 0 (raws r (0 ∷ 0 ∷ 0 ∷ 0 ∷ 0xA7 ∷ length report ∷ report)))
+unfolding frameWith symbolsWith
+written-plain r report =
+    let e : length report + 128 * 0 ≡ length report = omega arith in
+    ap (λ (n : ℕ). chipsOf r (encode r 0 (raws r (0 ∷ 0 ∷ 0 ∷ 0 ∷ 0xA7 ∷ n ∷ report)))) e
 
 -- What the writer leaves of two octets in mode 2, in numerals: a length octet of 2, its reserved
 -- bit 0, and a byte behind the frame as it was. And the octets of a frame with that bit set.

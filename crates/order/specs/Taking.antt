@@ -1,8 +1,8 @@
 -- Not to be believed: what the code carries from symbol to symbol, a record of numbers. That the
 -- numbers are those of the symbols before is shown in proofs/Carried.antt, that following them is
--- the reading order in proofs/Turns.antt. It is total: whatever the numbers
--- are, they are reduced or wrap, and no sum overflows. The stepping receiver's push names
--- `followed` and `keptAt`: of a forged record that passes its test they are all that is said.
+-- the reading order in proofs/Turns.antt. It is total: whatever the numbers are, they are reduced
+-- or wrap, and no sum overflows. The stepping receiver's push names `followed` and `keptAt`: of a
+-- forged record that passes its test they are all that is said.
 use mathlib.Core.Path.{_≡_}
 use mathlib.Core.Bool.{Bool, not}
 use Prim.Native.Nat.{ℕ, _+_, _-_, _*_, _/_, _%_, _^_, _≤_}
