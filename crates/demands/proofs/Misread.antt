@@ -148,7 +148,8 @@ module _ (r : Radio) (S : Sound r) (bit : ℕ) (low : bit ≤ 1) (report : List 
   pub bits-within : (i : ℕ) → (getD (bits report) i 0 ≡ getD (bits other) i 0 → ⊥) → (s * r .bits - 48 ≤ i) × (i < s * r .bits - 48 + 16)
   bits-within i n =
       let w =
-      within-two (r .bits) (bits-pos r S) bits-few (raws r (octetsWith bit report)) (raws r (octetsWith bit other)) s differ-two (48 + i) (λ e. n (shifted e)) in
+      within-two (r .bits) (bits-pos r S) bits-few (raws r (octetsWith bit report)) (raws r (octetsWith bit other)) s differ-two (48 + i)
+      (λ e. n (shifted e)) in
       (omega (arith, w .0, w .1, sent-after), omega (arith, w .0, w .1, sent-after))
     where
       shifted : getD (bitsOf (r .bits) (raws r (octetsWith bit report))) (48 + i) 0 ≡ getD (bitsOf (r .bits) (raws r (octetsWith bit other))) (48 + i) 0
