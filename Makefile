@@ -55,7 +55,7 @@ SONAME = liblernazhup.so.$(firstword $(subst ., ,$(VERSION)))
 CRATES = send bench
 TOOLS = Makefile tools/cc tools/sanitizer-flags
 # what the archive is made of
-PROVED := $(shell find crates/codes crates/matching crates/strips crates/frame crates/order crates/reader crates/receiver crates/fcs crates/checked crates/gateway -name '*.rt' -o -name '*.antt')
+PROVED := $(shell find crates/codes crates/columns crates/matching crates/strips crates/frame crates/writer crates/order crates/reader crates/receiver crates/fcs crates/checked crates/gateway -name '*.rt' -o -name '*.antt')
 COMPARED = compare compared_calls chip_cases octet_cases record_cases lent_memory printed_facts reference
 TIMED = usual_read best_read copying_write usual_fcs
 # programs of one file
@@ -90,22 +90,24 @@ check:
 test: check
 	@rt ci
 
-# every test from outside; each prints a line of counts, and fails where something is wrong
+# every test from outside; each prints a line of counts, and fails where something is wrong. The
+# comparison takes one core for as long as all that stand before the faults, and runs beside them.
 outside: $(SINGLE) build/compare build/speed $(SHARED)
-	@tests/contracts-test
-	@tests/header-test
-	@tools/exec build/header_macros
-	@tests/install-test
-	@tests/shared-test
-	@tools/exec build/struct_fields
-	@tests/vectors-test
-	@tests/frame-check-test
-	@tests/send-test
-	@tests/bench-test
-	@tests/example-test
-	@tools/exec build/stack
-	@measure/sizes
-	@comparison/compare-test "$$SEED" "$$CASES"
+	@comparison/compare-test "$$SEED" "$$CASES" >build/compare.said 2>&1 & compared=$$!; \
+	tests/contracts-test && \
+	tests/header-test && \
+	tools/exec build/header_macros && \
+	tests/install-test && \
+	tests/shared-test && \
+	tools/exec build/struct_fields && \
+	tests/vectors-test && \
+	tests/frame-check-test && \
+	tests/send-test && \
+	tests/bench-test && \
+	tests/example-test && \
+	tools/exec build/stack && \
+	measure/sizes; others=$$?; \
+	wait $$compared; status=$$?; cat build/compare.said; [ $$others -eq 0 ] && [ $$status -eq 0 ]
 	@env -u CC -u SEED -u CASES comparison/faults-test
 
 speed: lib build/speed build/stack

@@ -56,7 +56,15 @@ enum { RESERVED_BIT = 128 };
 
 /* The frame of a report, with the reserved bit or 0 in its length octet, each symbol as far from
  * its word as is accepted, the last one `more` chips farther. */
-void make_edge_frame(struct made *made, uint32_t mode, uint32_t reserved, const uint8_t *report, uint32_t n, uint32_t more);
+void make_edge_frame(struct made *made, uint32_t mode, uint32_t reserved, const uint8_t *report,
+    uint32_t n, uint32_t more);
+
+/* The frame of a report with just so many wrong chips in each symbol from one to before another. */
+void make_noisy_frame(struct made *made, uint32_t mode, const uint8_t *report, uint32_t n,
+    uint32_t from, uint32_t to, uint32_t wrong);
+
+/* Inverts that many different chips of a symbol. */
+void invert_some(uint32_t mode, uint8_t *symbol, uint32_t wrong);
 
 /* One symbol's chips somewhere on the way from one word to another: between the two, or just within
  * reach of one. */
@@ -76,7 +84,7 @@ size_t make_room(size_t needed);
 
 enum { PART_MAX = 600 };
 
-/* A part for push: mostly one symbol of that mode. Gives its length. */
+/* A part for push or match: mostly one symbol of that mode. Gives its length. */
 size_t make_part(uint32_t mode, uint8_t *part);
 
 /* A length that a symbol of that mode does not have. */

@@ -145,10 +145,9 @@ static uint32_t pick_symbol(const struct made *made)
     }
 }
 
-/* Inverts `wrong` different chips of symbol s. */
-static void disturb_symbol(struct made *made, uint32_t s, uint32_t wrong)
+void invert_some(uint32_t mode, uint8_t *symbol, uint32_t wrong)
 {
-    uint32_t size = reference_chips(made->mode), i;
+    uint32_t size = reference_chips(mode), i;
     uint8_t order[32];
 
     for (i = 0; i < size; i++)
@@ -159,8 +158,14 @@ static void disturb_symbol(struct made *made, uint32_t s, uint32_t wrong)
 
         order[j] = order[i];
         order[i] = chosen;
-        made->chips[s * size + chosen] ^= 1;
+        symbol[chosen] ^= 1;
     }
+}
+
+/* Inverts `wrong` different chips of symbol s. */
+static void disturb_symbol(struct made *made, uint32_t s, uint32_t wrong)
+{
+    invert_some(made->mode, made->chips + s * reference_chips(made->mode), wrong);
     made->marked = s;
 }
 
@@ -402,23 +407,46 @@ void make_chips(struct made *made, uint32_t longest)
         spoil(made);
 }
 
-void make_edge_frame(struct made *made, uint32_t mode, uint32_t reserved, const uint8_t *report, uint32_t n, uint32_t more)
+/* The frame of a report, with the reserved bit or 0 in its length octet. */
+static void make_clean_frame(struct made *made, uint32_t mode, uint32_t reserved,
+    const uint8_t *report, uint32_t n)
 {
     uint8_t octets[6 + 127] = { 0, 0, 0, 0, 0xA7 };
-    uint32_t last, s;
 
     notes_clear();
-    note("frame of %ld octets, as many errors as accepted in each symbol", n);
-    note("%ld more in the last", more);
+    note("frame of %ld octets", n);
     note("length octet with %ld", reserved);
     octets[5] = (uint8_t)(n | reserved);
     memcpy(octets + 6, report, n);
     made->mode = mode;
     made->n = n;
     made->frame = made->length = reference_spread(mode, octets, 6 + n, made->chips);
+}
+
+void make_edge_frame(struct made *made, uint32_t mode, uint32_t reserved, const uint8_t *report,
+    uint32_t n, uint32_t more)
+{
+    uint32_t last, s;
+
+    make_clean_frame(made, mode, reserved, report, n);
+    note("as many errors as accepted in each symbol", 0);
+    note("%ld more in the last", more);
     last = symbols_of(made) - 1;
     for (s = 0; s <= last; s++)
         disturb_symbol(made, s, reference_limit(mode) + (s == last ? more : 0));
+}
+
+void make_noisy_frame(struct made *made, uint32_t mode, const uint8_t *report, uint32_t n,
+    uint32_t from, uint32_t to, uint32_t wrong)
+{
+    uint32_t s;
+
+    make_clean_frame(made, mode, 0, report, n);
+    note("%ld wrong chips", wrong);
+    note("in each symbol from %ld on", from);
+    note("and before %ld", to);
+    for (s = from; s < to; s++)
+        disturb_symbol(made, s, wrong);
 }
 
 /* ---- Mode numbers and rooms ---- */

@@ -24,23 +24,65 @@
 static struct made made;
 static uint8_t wanted[LENT_MAX];   /* what a lent buffer must hold after the call */
 
+/* The symbols of a frame that was read, matched one by one: all are near enough to a word, the
+ * chips repaired are the sum of their distances, and the gap is the least of theirs. By the library
+ * alone. */
+static void check_symbols(uint32_t mode, lernazhup_reading reading)
+{
+    uint32_t size = reference_chips(mode), s;
+    lernazhup_reading want = reading;
+
+    begin("lernazhup_read, then lernazhup_match", mode, made.chips, made.length, 0);
+    want.count = 0;
+    want.gap = UINT32_MAX;
+    for (s = 0; s < reading.place; s++) {
+        lernazhup_matched symbol = lernazhup_match(mode, made.chips + s * size, size);
+
+        if (symbol.number != LERNAZHUP_DONE)
+            mismatch("a symbol of a frame that was read isn't matched");
+        want.count += symbol.nearest;
+        if (symbol.next - symbol.nearest < want.gap)
+            want.gap = symbol.next - symbol.nearest;
+    }
+    check_reading(reading, want);
+    if (reading.gap < LERNAZHUP_BY_MODE(mode, 3, 2, 2))
+        mismatch("the gap of a frame that was read is less than it can be");
+}
+
 static void try_reading(enum profile profile)
 {
+    lernazhup_reading reading;
     uint32_t mode;
 
     make_chips(&made, 127);
     mode = make_mode(made.mode);
-    check_read(profile, mode, made.chips, made.length, make_room(made.n));
+    reading = check_read(profile, mode, made.chips, made.length, make_room(made.n));
+    if (reading.number == LERNAZHUP_DONE && chance(10))
+        check_symbols(mode, reading);
 }
 
-/* What is written reads back, the checked report with its FCS, whatever stands behind it: by the
- * library alone, without the reference. */
+/* A part in the mode it was made for or in another. */
+static void try_matching(void)
+{
+    uint32_t mode = pick(MODES);
+    uint8_t part[PART_MAX];
+    size_t length;
+
+    notes_clear();
+    length = make_part(mode, part);
+    if (chance(12))
+        mode = chance(50) ? pick(2 * MODES) : make_bad_mode();
+    check_match(mode, part, length);
+}
+
+/* What is written reads back, the checked report with its FCS, whatever stands behind it, and with
+ * the gap of a frame as written: by the library alone, without the reference. */
 static void try_reading_back(enum profile profile, uint32_t mode, const uint8_t *report,
     size_t length, size_t room)
 {
     const struct calls *library = &compared[profile];
     lernazhup_written written;
-    lernazhup_reading want = { LERNAZHUP_DONE, 0, 0, 0 };
+    lernazhup_reading want = { LERNAZHUP_DONE, 0, 0, 0, 0 };
     uint8_t octets[127 + 2], *in, *out;
     uint32_t fcs = lernazhup_fcs(report, length);
     size_t shown;
@@ -54,6 +96,7 @@ static void try_reading_back(enum profile profile, uint32_t mode, const uint8_t 
     written = library->write(mode, report, length, wanted, room);
     want.place = written.chips / reference_chips(mode);
     want.n = (uint32_t)length + (profile == CHECKED ? 2 : 0);
+    want.gap = LERNAZHUP_BY_MODE(mode, 15, 12, 6);
     shown = chance(50) ? written.chips : room;
     in = lend_somewhere(LENT_IN, wanted, shown);
     out = lend_somewhere(LENT_OUT, pick_junk(), want.n);
@@ -201,7 +244,7 @@ static void try_start(void)
 
 static void try_something(void)
 {
-    uint32_t kind = pick(130);
+    uint32_t kind = pick(140);
 
     if (kind < 56)
         try_reading(PLAIN);
@@ -217,8 +260,10 @@ static void try_something(void)
         try_reading(CHECKED);
     else if (kind < 124)
         try_writing(CHECKED);
-    else
+    else if (kind < 130)
         try_slice();
+    else
+        try_matching();
 }
 
 /* Take of a record ended well, of each length, with rooms around it. */
@@ -229,6 +274,7 @@ static void try_taking(uint32_t mode, uint32_t n)
     record.ended = LERNAZHUP_DONE;
     record.length = n;
     record.taken = (6 + n) * reference_per_octet(mode);
+    record.gap = pick_any();
     memcpy(record.octets, pick_junk(), n);
     if (n > 0)
         check_take(record, n - 1);
@@ -382,6 +428,121 @@ static void try_every_checked_writing(void)
     }
 }
 
+enum { NOISY = 3 };   /* octets of the frames with noise */
+
+/* A frame with so many wrong chips in each symbol from one to before another, by each way to read
+ * it. */
+static void try_noise(uint32_t mode, uint32_t from, uint32_t to, uint32_t wrong)
+{
+    uint8_t report[NOISY];
+
+    pick_bytes(report, NOISY);
+    put_fcs(report, NOISY);
+    make_noisy_frame(&made, mode, report, NOISY, from, to, wrong);
+    check_read(PLAIN, mode, made.chips, made.length, NOISY);
+    check_read(CHECKED, mode, made.chips, made.length, NOISY);
+    try_pushing();
+}
+
+/* Each number of wrong chips up to one more than accepted: in all symbols of a frame, and in each
+ * of them alone, which then has the least gap. */
+static void try_every_noise(void)
+{
+    uint32_t mode, wrong, s;
+
+    for (mode = 0; mode < MODES; mode++)
+        for (wrong = 0; wrong <= reference_limit(mode) + 1; wrong++) {
+            uint32_t symbols = (6 + NOISY) * reference_per_octet(mode);
+
+            try_noise(mode, 0, symbols, wrong);
+            for (s = 0; s < symbols; s++)
+                try_noise(mode, s, s + 1, wrong);
+        }
+}
+
+/* ---- Every part ---- */
+
+/* Each word with up to two wrong chips more than accepted; flat chips; and each word on its way to
+ * each other, chip by chip: half way they are as near, where an even number of chips is between. */
+static void try_every_word(uint32_t mode)
+{
+    enum { TIMES = 8 };
+    uint32_t size = reference_chips(mode), words = reference_words(mode), w, each, c;
+    uint8_t part[LERNAZHUP_SYMBOL_MAX];
+
+    for (w = 0; w < words; w++) {
+        for (each = 0; each < TIMES * (reference_limit(mode) + 3); each++) {
+            memcpy(part, reference_word(mode, w), size);
+            invert_some(mode, part, each / TIMES);
+            check_match(mode, part, size);
+        }
+        for (each = 0; each < words; each++) {
+            memcpy(part, reference_word(mode, w), size);
+            for (c = 0; c < size; c++)
+                if (part[c] != reference_word(mode, each)[c]) {
+                    part[c] ^= 1;
+                    check_match(mode, part, size);
+                }
+        }
+    }
+    for (c = 0; c < 2; c++) {
+        memset(part, (int)c, size);
+        check_match(mode, part, size);
+    }
+}
+
+/* Each symbol that chips can make, in a mode that has few enough of them. */
+static void try_every_symbol(uint32_t mode)
+{
+    uint32_t size = reference_chips(mode), symbol, c;
+    uint8_t part[LERNAZHUP_SYMBOL_MAX];
+
+    for (symbol = 0; symbol < 1u << size; symbol++) {
+        for (c = 0; c < size; c++)
+            part[c] = symbol >> c & 1;
+        check_match(mode, part, size);
+    }
+}
+
+/* A word with a byte in each place that isn't a chip; and chips and other bytes of each length up
+ * to more than two symbols, in the modes that no radio has too. */
+static void try_every_bad_part(uint32_t mode)
+{
+    enum { LENGTHS = 70 };
+    uint32_t size = reference_chips(mode), other, length, c;
+    uint8_t part[LENGTHS];
+
+    for (c = 0; c < size; c++) {
+        memcpy(part, reference_word(mode, pick(reference_words(mode))), size);
+        part[c] = (uint8_t)(2 + pick(254));
+        check_match(mode, part, size);
+    }
+    for (length = 0; length < LENGTHS; length++) {
+        const uint8_t *bytes = pick_junk();
+
+        for (c = 0; c < length; c++)
+            part[c] = bytes[c] % 2;
+        check_match(mode, part, length);
+        check_match(mode, bytes, length);
+        for (other = MODES; other < 2 * MODES; other++)
+            check_match(other, part, length);
+        check_match(make_bad_mode(), bytes, length);
+    }
+}
+
+static void try_every_part(void)
+{
+    uint32_t mode;
+
+    notes_clear();
+    for (mode = 0; mode < MODES; mode++) {
+        try_every_word(mode);
+        try_every_bad_part(mode);
+        if (reference_chips(mode) <= 16)
+            try_every_symbol(mode);
+    }
+}
+
 /* ---- Lengths that don't fit in 32 bits ---- */
 
 static uint8_t *huge_in, *huge_out;
@@ -427,16 +588,26 @@ static void try_huge_frames(enum profile profile, uint32_t mode)
     memset(huge_in, 0, LENT_MAX);
 }
 
-/* A part of one symbol and 4 GiB, and a report of a record of two octets taken into 4 GiB. */
-static void try_huge_records(uint32_t mode)
+/* A part of one symbol and 4 GiB. */
+static void try_huge_parts(uint32_t mode)
+{
+    lernazhup_receiver record = reference_start(mode).receiver;
+    size_t length = huge + reference_chips(mode);
+
+    begin_on_record("lernazhup_push", &record, NULL, length, 0);
+    count_case(PUSH, mode, LERNAZHUP_BADPART);
+    check_step(lernazhup_push(record, huge_in, length), reference_push(record, huge_in, length));
+    begin("lernazhup_match", mode, NULL, length, 0);
+    count_case(MATCH, mode, LERNAZHUP_BADPART);
+    check_matched(lernazhup_match(mode, huge_in, length), reference_match(mode, huge_in, length));
+}
+
+/* A report of a record of two octets taken into 4 GiB. */
+static void try_huge_take(uint32_t mode)
 {
     lernazhup_receiver record = reference_start(mode).receiver;
     lernazhup_reading want;
 
-    begin_on_record("lernazhup_push", &record, NULL, huge + reference_chips(mode), 0);
-    count_case(PUSH, mode, LERNAZHUP_BADPART);
-    check_step(lernazhup_push(record, huge_in, huge + reference_chips(mode)),
-        reference_push(record, huge_in, huge + reference_chips(mode)));
     record.ended = LERNAZHUP_DONE;
     record.length = 2;
     record.taken = 8 * reference_per_octet(mode);
@@ -463,7 +634,8 @@ static void try_huge_lengths(void)
     for (mode = 0; mode < MODES; mode++) {
         try_huge_frames(PLAIN, mode);
         try_huge_frames(CHECKED, mode);
-        try_huge_records(mode);
+        try_huge_parts(mode);
+        try_huge_take(mode);
     }
 }
 
@@ -508,6 +680,8 @@ int main(int argc, char **argv)
     try_every_slice();
     try_every_wrong_bit();
     try_every_checked_writing();
+    try_every_noise();
+    try_every_part();
     try_huge_lengths();
     print_counts();
     /* A test that never met a number says nothing on it. Few cases can't be asked for all. */

@@ -48,7 +48,8 @@ enum { LIBRARY_FCS = 2, FCS_CALLS = sizeof fcs_calls / sizeof fcs_calls[0] };
 /* ---- The case in hand, and what was met so far ---- */
 
 static const char *const function_names[FUNCTIONS] = {
-    "write", "read", "start", "push", "finish", "take", "write_checked", "read_checked", "check"
+    "write", "read", "match", "start", "push", "finish", "take", "write_checked", "read_checked",
+    "check"
 };
 
 /* Numbers by column: 0 to 16, 34, and the others, which take repeats from forged records. */
@@ -78,8 +79,9 @@ static void print_record(const char *title, const lernazhup_receiver *r)
 
     while (shown > 0 && r->octets[shown - 1] == 0)
         shown--;
-    printf("  %s: mode %" PRIu32 ", ended %" PRIu32 ", taken %" PRIu32 ", length %" PRIu32 ", count %" PRIu32 ", last %" PRIu32
-        ", octet %" PRIu32 ", octets", title, r->mode, r->ended, r->taken, r->length, r->count, r->last, r->octet);
+    printf("  %s: mode %" PRIu32 ", ended %" PRIu32 ", taken %" PRIu32 ", length %" PRIu32
+        ", count %" PRIu32 ", last %" PRIu32 ", octet %" PRIu32 ", gap %" PRIu32 ", octets",
+        title, r->mode, r->ended, r->taken, r->length, r->count, r->last, r->octet, r->gap);
     for (i = 0; i < shown; i++)
         printf(" %02x", r->octets[i]);
     printf(shown < 127 ? " and zeros\n" : "\n");
@@ -228,11 +230,13 @@ void check_reading(lernazhup_reading got, lernazhup_reading want)
 {
     char words[200];
 
-    if (got.number == want.number && got.place == want.place && got.n == want.n && got.count == want.count)
+    if (got.number == want.number && got.place == want.place && got.n == want.n
+        && got.count == want.count && got.gap == want.gap)
         return;
-    snprintf(words, sizeof words, "number, place, n, count are %" PRIu32 " %" PRIu32 " %" PRIu32 " %" PRIu32
-        " and should be %" PRIu32 " %" PRIu32 " %" PRIu32 " %" PRIu32,
-        got.number, got.place, got.n, got.count, want.number, want.place, want.n, want.count);
+    snprintf(words, sizeof words, "number, place, n, count, gap are %" PRIu32 " %" PRIu32
+        " %" PRIu32 " %" PRIu32 " %" PRIu32 " and should be %" PRIu32 " %" PRIu32 " %" PRIu32
+        " %" PRIu32 " %" PRIu32, got.number, got.place, got.n, got.count, got.gap,
+        want.number, want.place, want.n, want.count, want.gap);
     mismatch(words);
 }
 
@@ -305,14 +309,45 @@ lernazhup_written check_write(enum profile profile, uint32_t mode, const uint8_t
     return want;
 }
 
+/* ---- One symbol ---- */
+
+void check_matched(lernazhup_matched got, lernazhup_matched want)
+{
+    char words[160];
+
+    if (got.number == want.number && got.word == want.word && got.nearest == want.nearest
+        && got.next == want.next)
+        return;
+    snprintf(words, sizeof words, "number, word, nearest, next are %" PRIu32 " %" PRIu32 " %" PRIu32
+        " %" PRIu32 " and should be %" PRIu32 " %" PRIu32 " %" PRIu32 " %" PRIu32,
+        got.number, got.word, got.nearest, got.next,
+        want.number, want.word, want.nearest, want.next);
+    mismatch(words);
+}
+
+lernazhup_matched check_match(uint32_t mode, const uint8_t *part, size_t length)
+{
+    lernazhup_matched want = reference_match(mode, part, length);
+    uint8_t *in;
+
+    count_case(MATCH, mode, want.number);
+    begin("lernazhup_match", mode, part, length, 0);
+    in = lend_somewhere(LENT_IN, part, length);
+    check_matched(lernazhup_match(mode, in, length), want);
+    check_lent(LENT_IN, "part", part);
+    return want;
+}
+
 /* ---- The receiver's calls ---- */
 
 /* The name of a field that differs; NULL where none does. */
 static const char *other_field(const lernazhup_receiver *a, const lernazhup_receiver *b)
 {
-    return a->mode != b->mode ? "mode" : a->ended != b->ended ? "ended" : a->taken != b->taken ? "taken"
-        : a->length != b->length ? "length" : a->count != b->count ? "count" : a->last != b->last ? "last"
-        : a->octet != b->octet ? "octet" : memcmp(a->octets, b->octets, sizeof a->octets) != 0 ? "octets" : NULL;
+    return a->mode != b->mode ? "mode" : a->ended != b->ended ? "ended"
+        : a->taken != b->taken ? "taken" : a->length != b->length ? "length"
+        : a->count != b->count ? "count" : a->last != b->last ? "last"
+        : a->octet != b->octet ? "octet" : a->gap != b->gap ? "gap"
+        : memcmp(a->octets, b->octets, sizeof a->octets) != 0 ? "octets" : NULL;
 }
 
 void check_step(lernazhup_step got, lernazhup_step want)
@@ -430,6 +465,7 @@ void check_fcs(const uint8_t *octets, size_t length)
 static const int8_t columns_of[FUNCTIONS][12] = {
     { 0, 1, 2, 3, -1 },
     { 0, 1, 3, 4, 5, 6, 7, 8, -1 },
+    { 0, 1, 5, 6, 11, -1 },
     { 1, 13, -1 },
     { 0, 5, 6, 7, 8, 10, 11, 13, FORGED, -1 },
     { 4, 10, FORGED, -1 },

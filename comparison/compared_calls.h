@@ -37,6 +37,7 @@ lernazhup_reading check_read(enum profile profile, uint32_t mode, const uint8_t 
     size_t length, size_t room);
 lernazhup_written check_write(enum profile profile, uint32_t mode, const uint8_t *report,
     size_t length, size_t room);
+lernazhup_matched check_match(uint32_t mode, const uint8_t *part, size_t length);
 lernazhup_receiver check_start(uint32_t mode);
 lernazhup_step check_push(lernazhup_receiver record, const uint8_t *part, size_t length);
 lernazhup_step check_finish(lernazhup_receiver record);
@@ -53,6 +54,7 @@ void begin_on_record(const char *name, const lernazhup_receiver *record, const u
 
 void check_reading(lernazhup_reading got, lernazhup_reading want);
 void check_written(lernazhup_written got, lernazhup_written want);
+void check_matched(lernazhup_matched got, lernazhup_matched want);
 void check_step(lernazhup_step got, lernazhup_step want);
 void check_lent(enum lent_slot slot, const char *what, const uint8_t *bytes);
 void mismatch(const char *what);
@@ -68,7 +70,7 @@ const uint8_t *pick_junk(void);
 
 /* All but the FCS, which has no number to give. */
 enum function {
-    WRITE, READ, START, PUSH, FINISH, TAKE, WRITE_CHECKED, READ_CHECKED, CHECK, FUNCTIONS
+    WRITE, READ, MATCH, START, PUSH, FINISH, TAKE, WRITE_CHECKED, READ_CHECKED, CHECK, FUNCTIONS
 };
 
 void count_case(enum function function, uint32_t mode, uint32_t number);

@@ -1,7 +1,8 @@
 /*
  * The reference held to the documents' own numbers: the rows of the code tables as printed, the
  * facts that the work stands on, the bench sheet A to L, what 01 gives for running and comparing,
- * and what 02 gives for the third radio and the frame check, with the published vectors of the FCS.
+ * and what 02 gives for the third radio, the frame check, with the published vectors of the FCS,
+ * the reserved bit and the gap; and what the header says of gaps.
  */
 #include "printed_facts.h"
 
@@ -126,9 +127,76 @@ static void single_symbols(void)
     fact("three inverted, mode 2", pushed(2, 3) == LERNAZHUP_LOST);
 }
 
-static int is_reading(lernazhup_reading got, uint32_t number, uint32_t place, uint32_t n, uint32_t count)
+static int is_matched(lernazhup_matched got, uint32_t number, uint32_t word, uint32_t nearest,
+    uint32_t next)
 {
-    return got.number == number && got.place == place && got.n == n && got.count == count;
+    return got.number == number && got.word == word && got.nearest == nearest && got.next == next;
+}
+
+static int is_no_match(lernazhup_matched got, uint32_t number)
+{
+    return is_matched(got, number, 0, 0, 0);
+}
+
+/* The match of a word with so many chips, from the front, turned to those of another. */
+static lernazhup_matched matched_between(uint32_t mode, uint32_t from, uint32_t to, uint32_t turned)
+{
+    uint32_t size = reference_chips(mode), c;
+    uint8_t part[32];
+
+    memcpy(part, reference_word(mode, from), size);
+    for (c = 0; c < size && turned > 0; c++)
+        if (part[c] != reference_word(mode, to)[c]) {
+            part[c] ^= 1;
+            turned--;
+        }
+    return reference_match(mode, part, size);
+}
+
+/* The least distance of two words. */
+static uint32_t least_apart(uint32_t mode) { return LERNAZHUP_BY_MODE(mode, 15, 12, 6); }
+
+static void matched_words(void)
+{
+    uint32_t mode, w, b;
+
+    for (mode = 0; mode < MODES; mode++)
+        for (w = 0; w < reference_words(mode); w++) {
+            uint32_t size = reference_chips(mode);
+
+            fact("gap of a word", is_matched(reference_match(mode, reference_word(mode, w), size),
+                LERNAZHUP_DONE, w, 0, least_apart(mode)));
+        }
+    for (b = 0; b < 2; b++) {
+        fact("D", is_matched(reference_match(1, flat[b], 32), LERNAZHUP_LOST, 0, 16, 16));
+        fact("flat, mode 2", is_matched(reference_match(2, flat[b], 16), LERNAZHUP_LOST, 0, 8, 8));
+    }
+    fact("E", is_matched(reference_match(0, flat[0], 15), LERNAZHUP_LOST, 1, 7, 8));
+    fact("F", is_matched(reference_match(0, flat[1], 15), LERNAZHUP_LOST, 0, 7, 8));
+    fact("I", is_matched(matched_between(0, 0, 1, 6), LERNAZHUP_DONE, 0, 6, 9));
+    fact("J", is_matched(matched_between(0, 0, 1, 7), LERNAZHUP_LOST, 0, 7, 8));
+    fact("J", is_matched(matched_between(0, 0, 1, 8), LERNAZHUP_LOST, 1, 7, 8));
+    fact("J", is_matched(matched_between(0, 0, 1, 9), LERNAZHUP_DONE, 1, 6, 9));
+    fact("0 and 9", is_matched(matched_between(1, 0, 9, 5), LERNAZHUP_DONE, 0, 5, 7));
+    fact("9 and 0", is_matched(matched_between(1, 9, 0, 5), LERNAZHUP_DONE, 9, 5, 7));
+    fact("0 and 10", is_matched(matched_between(2, 0, 10, 2), LERNAZHUP_DONE, 0, 2, 4));
+    fact("10 and 0", is_matched(matched_between(2, 10, 0, 2), LERNAZHUP_DONE, 10, 2, 4));
+    fact("the lowest on a tie", is_matched(matched_between(1, 9, 0, 6), LERNAZHUP_LOST, 0, 6, 6));
+    fact("the lowest on a tie", is_matched(matched_between(2, 10, 0, 3), LERNAZHUP_LOST, 0, 3, 3));
+}
+
+/* A refusal: 0 but for number and place. */
+static int is_refused(lernazhup_reading got, uint32_t number, uint32_t place)
+{
+    return got.number == number && got.place == place && got.n == 0 && got.count == 0
+        && got.gap == 0;
+}
+
+/* A frame as written: nothing repaired, and a gap of the least distance. */
+static int is_clean(lernazhup_reading got, uint32_t mode, uint32_t place, uint32_t n)
+{
+    return got.number == LERNAZHUP_DONE && got.place == place && got.n == n && got.count == 0
+        && got.gap == least_apart(mode);
 }
 
 static uint8_t chips[LERNAZHUP_CHIPS_MAX];
@@ -171,23 +239,76 @@ static void readings(void)
     uint32_t mode, i;
 
     for (mode = 0; mode < MODES; mode++) {
-        fact("no input", is_reading(reference_read(mode, chips, 0, room, 127), LERNAZHUP_RUNOUT, 0, 0, 0));
+        lernazhup_reading reading = reference_read(mode, chips, 0, room, 127);
+
+        fact("no input", is_refused(reading, LERNAZHUP_RUNOUT, 0));
         reference_write(mode, report, 5, chips, sizeof chips);
-        fact("reads back", reference_read(mode, chips, sizeof chips, room, 127).n == 5 && memcmp(room, report, 5) == 0);
+        reading = reference_read(mode, chips, sizeof chips, room, 127);
+        fact("reads back", is_clean(reading, mode, 11 * reference_per_octet(mode), 5));
+        fact("reads back", memcmp(room, report, 5) == 0);
     }
-    reference_write(1, report, 127, chips, sizeof chips);
-    fact("cut, mode 1", is_reading(reference_read(1, chips, 8511, room, 127), LERNAZHUP_RUNOUT, 265, 0, 0));
-    reference_write(2, report, 127, chips, sizeof chips);
-    fact("cut, mode 2", is_reading(reference_read(2, chips, 4255, room, 127), LERNAZHUP_RUNOUT, 265, 0, 0));
+    for (mode = 1; mode < MODES; mode++) {
+        uint32_t length = reference_write(mode, report, 127, chips, sizeof chips).chips;
+        lernazhup_reading reading = reference_read(mode, chips, length - 1, room, 127);
+
+        fact("cut, modes 1 and 2", is_refused(reading, LERNAZHUP_RUNOUT, 265));
+    }
     reference_write(0, report, 5, chips, sizeof chips);
     for (i = 0; i < 1320; i++)
         chips[i] ^= 1;
-    fact("inverted", is_reading(reference_read(0, chips, 1320, room, 127), LERNAZHUP_PREAMBLE, 0, 0, 0));
+    fact("inverted", is_refused(reference_read(0, chips, 1320, room, 127), LERNAZHUP_PREAMBLE, 0));
     reference_write(1, report, 0, chips, sizeof chips);
-    fact("bench, mode 0", is_reading(reference_read(0, chips, 384, room, 127), LERNAZHUP_LOST, 1, 0, 0));
-    fact("bench, mode 1", is_reading(reference_read(1, chips, 384, room, 127), LERNAZHUP_DONE, 12, 0, 0));
+    fact("bench, mode 0", is_refused(reference_read(0, chips, 384, room, 127), LERNAZHUP_LOST, 1));
+    fact("bench, mode 1", is_clean(reference_read(1, chips, 384, room, 127), 1, 12, 0));
+    fact("1 0 12 0 0 12", reference_read(1, chips, 384, room, 127).gap == 12);
     reference_write(2, report, 0, chips, sizeof chips);
-    fact("empty report, mode 2", is_reading(reference_read(2, chips, 192, room, 127), LERNAZHUP_DONE, 12, 0, 0));
+    fact("empty report, mode 2", is_clean(reference_read(2, chips, 192, room, 127), 2, 12, 0));
+}
+
+/* The first five octets' frame with as many wrong chips in each symbol as accepted, which then are
+ * put right one by one: the gap is the least that a frame can have or more, and never falls. */
+static void put_right(uint32_t mode, uint32_t lowest)
+{
+    static uint8_t sent[LERNAZHUP_CHIPS_MAX];
+    uint32_t size = reference_chips(mode), gap = lowest, s, c;
+    uint32_t length = reference_write(mode, report, 5, sent, sizeof sent).chips;
+    lernazhup_reading reading;
+    uint8_t room[5];
+
+    memcpy(chips, sent, length);
+    for (s = 0; s * size < length; s++)
+        for (c = 0; c < reference_limit(mode); c++)
+            chips[s * size + (s + 2 * c) % size] ^= 1;
+    for (c = 0; c < length; c++)
+        if (chips[c] != sent[c]) {
+            reading = reference_read(mode, chips, length, room, 5);
+            fact("put right", reading.number == LERNAZHUP_DONE && reading.gap >= gap);
+            gap = reading.gap;
+            chips[c] = sent[c];
+        }
+    reading = reference_read(mode, chips, length, room, 5);
+    fact("put right", is_clean(reading, mode, length / size, 5));
+}
+
+/* Mode 0: 15 less twice the wrong chips of the worst symbol. Modes 1 and 2: even. */
+static void worst_symbols(void)
+{
+    uint8_t room[127];
+    uint32_t mode, wrong;
+
+    for (mode = 0; mode < MODES; mode++) {
+        uint32_t size = reference_chips(mode);
+
+        reference_write(mode, report, 5, chips, sizeof chips);
+        for (wrong = 0; wrong < reference_limit(mode); wrong++) {
+            uint32_t gap;
+
+            chips[12 * size + wrong] ^= 1;
+            chips[15 * size] ^= 1;
+            gap = reference_read(mode, chips, sizeof chips, room, 127).gap;
+            fact("worst symbol", mode == 0 ? gap == 15 - 2 * (wrong + 1) : gap % 2 == 0);
+        }
+    }
 }
 
 /* The frame of the first five octets with the reserved bit set. */
@@ -208,12 +329,16 @@ static void reserved_bit(void)
     uint32_t mode;
 
     for (mode = 0; mode < MODES; mode++) {
-        uint32_t size = reference_chips(mode), symbols = 11 * reference_per_octet(mode), last = 6 * reference_per_octet(mode) - 1, s;
+        uint32_t size = reference_chips(mode), per_octet = reference_per_octet(mode);
+        uint32_t symbols = 11 * per_octet, last = 6 * per_octet - 1, s;
+        lernazhup_reading reading;
 
         reference_write(mode, report, 5, plain, sizeof plain);
-        fact("reserved bit", is_reading(reference_read(mode, chips, spread_reserved(mode), room, 5), LERNAZHUP_DONE, symbols, 5, 0));
+        reading = reference_read(mode, chips, spread_reserved(mode), room, 5);
+        fact("reserved bit", is_clean(reading, mode, symbols, 5));
         fact("reserved bit", memcmp(room, report, 5) == 0);
-        fact("reserved bit, 3", is_reading(reference_read(mode, chips, sizeof chips, room, 4), LERNAZHUP_NOROOM, last, 0, 0));
+        reading = reference_read(mode, chips, sizeof chips, room, 4);
+        fact("reserved bit, 3", is_refused(reading, LERNAZHUP_NOROOM, last));
         for (s = 0; s < symbols; s++) {
             uint32_t places = apart(chips + s * size, plain + s * size, size);
 
@@ -230,9 +355,32 @@ static void no_radio(void)
     uint32_t i;
 
     for (i = 0; i < sizeof modes / sizeof modes[0]; i++) {
-        fact("1, write", reference_write(modes[i], report, 0, chips, sizeof chips).number == LERNAZHUP_BADMODE);
-        fact("1, read", is_reading(reference_read(modes[i], chips, 192, NULL, 0), LERNAZHUP_BADMODE, 0, 0, 0));
-        fact("1, start", reference_start(modes[i]).number == LERNAZHUP_BADMODE);
+        lernazhup_written written = reference_write(modes[i], report, 0, chips, sizeof chips);
+        lernazhup_reading reading = reference_read(modes[i], chips, 192, NULL, 0);
+        lernazhup_step started = reference_start(modes[i]);
+
+        fact("1, write", written.number == LERNAZHUP_BADMODE);
+        fact("1, read", is_refused(reading, LERNAZHUP_BADMODE, 0));
+        fact("1, start", started.number == LERNAZHUP_BADMODE && started.receiver.gap == UINT32_MAX);
+    }
+}
+
+/* What match refuses, in its order: a mode above 2, a part that isn't one symbol long, a byte that
+ * isn't a chip. */
+static void bad_parts(void)
+{
+    static const uint8_t part[33] = { 2 };
+    uint32_t mode;
+
+    fact("1 before 11", is_no_match(reference_match(3, NULL, 0), LERNAZHUP_BADMODE));
+    fact("1 before 5", is_no_match(reference_match(3, part, 16), LERNAZHUP_BADMODE));
+    for (mode = 0; mode < MODES; mode++) {
+        uint32_t size = reference_chips(mode);
+
+        fact("11", is_no_match(reference_match(mode, NULL, 0), LERNAZHUP_BADPART));
+        fact("11 before 5", is_no_match(reference_match(mode, part, size - 1), LERNAZHUP_BADPART));
+        fact("11 before 5", is_no_match(reference_match(mode, part, size + 1), LERNAZHUP_BADPART));
+        fact("5", is_no_match(reference_match(mode, part, size), LERNAZHUP_NOCHIP));
     }
 }
 
@@ -278,11 +426,11 @@ static void checked_frames(void)
         fact("16 before 3", roomless(mode, zeros, 125) == LERNAZHUP_ALLZERO);
         fact("125 octets", roomless(mode, report, 125) == LERNAZHUP_NOROOM);
         fact("two octets more", written.chips == size);
-        fact("both counted", is_reading(reading, LERNAZHUP_DONE, symbols, 5, 0));
+        fact("both counted", is_clean(reading, mode, symbols, 5));
         fact("both stored", memcmp(room, acknowledgement, 5) == 0);
         reference_write(mode, report, 5, chips, size);
         reading = reference_read_checked(mode, chips, size, room, 127);
-        fact("15", is_reading(reading, LERNAZHUP_BADCHECK, symbols, 0, 0));
+        fact("15", is_refused(reading, LERNAZHUP_BADCHECK, symbols));
         fact("unchanged", memcmp(room, acknowledgement, 5) == 0);
     }
 }
@@ -294,6 +442,8 @@ int facts_hold(void)
     printed_rows(2, rows_of_000);
     words();
     single_symbols();
+    matched_words();
+    bad_parts();
     start_octet();
     fact("L", reference_write(1, report, 5, chips, sizeof chips).chips == 704);
     fact("L", reference_write(0, report, 5, chips, sizeof chips).chips == 1320);
@@ -301,6 +451,10 @@ int facts_hold(void)
     lengths(1, 384, 64, 8512);
     lengths(2, 192, 32, 4256);
     readings();
+    put_right(0, 3);
+    put_right(1, 2);
+    put_right(2, 2);
+    worst_symbols();
     reserved_bit();
     no_radio();
     checks();

@@ -83,9 +83,11 @@ static uint32_t wild_number(void)
     return chance(60) ? numbers[pick(sizeof numbers / sizeof numbers[0])] : any >> pick(32);
 }
 
+enum { FIELDS = 8 };
+
 static uint32_t *field_of(lernazhup_receiver *record, uint32_t which)
 {
-    uint32_t *fields[7];
+    uint32_t *fields[FIELDS];
 
     fields[0] = &record->mode;
     fields[1] = &record->ended;
@@ -94,14 +96,21 @@ static uint32_t *field_of(lernazhup_receiver *record, uint32_t which)
     fields[4] = &record->count;
     fields[5] = &record->last;
     fields[6] = &record->octet;
+    fields[7] = &record->gap;
     return fields[which];
+}
+
+/* A gap to hold: none yet, one above or below that of the next symbol, or what no symbol has. */
+static uint32_t held_gap(void)
+{
+    return chance(30) ? UINT32_MAX : chance(70) ? pick(17) : wild_number();
 }
 
 /* One that the calls made, with one field changed, by a little or wildly. */
 static lernazhup_receiver change_one(void)
 {
     lernazhup_receiver record = kept[pick(kept_length)];
-    uint32_t which = pick(7), *field = field_of(&record, which);
+    uint32_t which = pick(FIELDS), *field = field_of(&record, which);
 
     *field = chance(50) ? *field + pick(7) - 3 : wild_number();
     note("a made record with field %ld changed", which);
@@ -114,7 +123,7 @@ static lernazhup_receiver all_random(void)
     uint32_t which;
 
     memset(&record, 0, sizeof record);
-    for (which = 0; which < 7; which++)
+    for (which = 0; which < FIELDS; which++)
         *field_of(&record, which) = wild_number();
     pick_bytes(record.octets, sizeof record.octets);
     note("a record of random fields", 0);
@@ -166,6 +175,7 @@ static lernazhup_receiver at_edges(void)
     record.last = chance(70) ? pick(16) : wild_number();
     /* Octets that the right symbol makes 0xA7, or the top bit of which will be 0. */
     record.octet = chance(40) ? (record.mode == 0 ? 0x4E : 0x70) + pick(2) : chance(50) ? pick(256) : wild_number();
+    record.gap = held_gap();
     pick_bytes(record.octets, sizeof record.octets);
     if (chance(10))
         record.mode = make_bad_mode();

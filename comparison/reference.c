@@ -1,12 +1,12 @@
 /*
- * The reference: document 01 in plain C, with document 02's third radio, frame check and reserved
- * bit.
+ * The reference: document 01 in plain C, with document 02's third radio, frame check, reserved bit
+ * and gap.
  * It is meant for being checked by eye with 01 in the other hand, so it follows 01's words and
  * order and does nothing for speed: each symbol is compared with every word, chip by chip.
  *
- * The reader keeps the raw symbols and reads octets off them; push works on the record, as the
- * header describes it. The two share only what one symbol is (match, raw_of), so that their
- * agreement says something.
+ * The reader keeps the raw symbols and reads octets off them, and likewise keeps the gaps and takes
+ * the least in the end; push works on the record, as the header describes it. The two share only
+ * what one symbol is (match, gap_of, raw_of), so that their agreement says something.
  */
 #include "reference.h"
 
@@ -14,7 +14,7 @@
 
 /* ---- The three radios ---- */
 
-enum { START_OCTET = 0xA7, PREAMBLE_OCTETS = 4, HEAD_OCTETS = 6, SYMBOLS_MAX = (6 + 127) * 8, NO_WORD = 16 };
+enum { START_OCTET = 0xA7, PREAMBLE_OCTETS = 4, HEAD_OCTETS = 6, SYMBOLS_MAX = (6 + 127) * 8 };
 
 struct radio {
     uint32_t chips;      /* chips per symbol */
@@ -100,20 +100,51 @@ static int has_bad_byte(const uint8_t *symbol, uint32_t length)
     return 0;
 }
 
-/* The value of the one word within the accepted distance, and how far away it is; or NO_WORD. */
-static uint32_t match(const struct radio *radio, const uint8_t *symbol, uint32_t *away)
+/*
+ * The nearest word, how far it is, and how far the nearest of all other words is. One within the
+ * accepted distance is the only one, since two words are more than twice as far apart; with none
+ * there the symbol is lost, and the three are told all the same.
+ */
+static lernazhup_matched match(const struct radio *radio, const uint8_t *symbol)
 {
-    uint32_t w, value = NO_WORD;
+    lernazhup_matched answer = { LERNAZHUP_DONE, 0, UINT32_MAX, UINT32_MAX };
+    uint32_t away[16], w;
 
     for (w = 0; w < radio->words; w++) {
-        uint32_t d = distance(radio->word[w], symbol, radio->chips);
-
-        if (d <= radio->limit) {
-            value = w;
-            *away = d;
+        away[w] = distance(radio->word[w], symbol, radio->chips);
+        /* On a tie the lowest number stays. */
+        if (away[w] < answer.nearest) {
+            answer.word = w;
+            answer.nearest = away[w];
         }
     }
-    return value;
+    for (w = 0; w < radio->words; w++)
+        if (w != answer.word && away[w] < answer.next)
+            answer.next = away[w];
+    if (answer.nearest > radio->limit)
+        answer.number = LERNAZHUP_LOST;
+    return answer;
+}
+
+static uint32_t gap_of(lernazhup_matched symbol)
+{
+    return symbol.next - symbol.nearest;
+}
+
+lernazhup_matched reference_match(uint32_t mode, const uint8_t *part, size_t part_len)
+{
+    const struct radio *radio = radio_of(mode);
+    lernazhup_matched refusal = { 0, 0, 0, 0 };
+
+    if (radio == NULL)
+        refusal.number = LERNAZHUP_BADMODE;
+    else if (part_len != radio->chips)
+        refusal.number = LERNAZHUP_BADPART;
+    else if (has_bad_byte(part, radio->chips))
+        refusal.number = LERNAZHUP_NOCHIP;
+    else
+        return match(radio, part);
+    return refusal;
 }
 
 /* Mode 0: the sum modulo 2 of each encoded bit and the one before it. Modes 1 and 2: the symbol
@@ -179,20 +210,21 @@ lernazhup_written reference_write(uint32_t mode, const uint8_t *report, size_t r
 
 /* ---- The reader ---- */
 
-static lernazhup_reading done(uint32_t place, uint32_t n, uint32_t count)
+static lernazhup_reading done(uint32_t place, uint32_t n, uint32_t count, uint32_t gap)
 {
-    lernazhup_reading answer = { LERNAZHUP_DONE, 0, 0, 0 };
+    lernazhup_reading answer = { LERNAZHUP_DONE, 0, 0, 0, 0 };
 
     answer.place = place;
     answer.n = n;
     answer.count = count;
+    answer.gap = gap;
     return answer;
 }
 
-/* A refusal: n and count are 0. */
+/* A refusal: n, count and gap are 0. */
 static lernazhup_reading refused(uint32_t number, uint32_t place)
 {
-    lernazhup_reading answer = done(place, 0, 0);
+    lernazhup_reading answer = done(place, 0, 0, 0);
 
     answer.number = number;
     return answer;
@@ -208,27 +240,39 @@ static uint32_t octet_of(const struct radio *radio, const uint32_t *raw, uint32_
     return octet;
 }
 
+/* The least of the gaps of so many symbols. */
+static uint32_t least(const uint32_t *gaps, uint32_t symbols)
+{
+    uint32_t s, gap = UINT32_MAX;
+
+    for (s = 0; s < symbols; s++)
+        if (gaps[s] < gap)
+            gap = gaps[s];
+    return gap;
+}
+
 lernazhup_reading reference_read(uint32_t mode, const uint8_t *chips, size_t chips_len, uint8_t *report, size_t report_len)
 {
     const struct radio *radio = radio_of(mode);
-    uint32_t raw[SYMBOLS_MAX], encoded = 0, count = 0, n = 0, s, k;
+    uint32_t raw[SYMBOLS_MAX], gaps[SYMBOLS_MAX], encoded = 0, count = 0, n = 0, s, k;
 
     if (radio == NULL)
         return refused(LERNAZHUP_BADMODE, 0);
     for (s = 0; s < symbols_in_frame(radio, n); s++) {
         size_t at = (size_t)s * radio->chips;
-        uint32_t value, away = 0;
+        lernazhup_matched symbol;
 
         if (chips_len - at < radio->chips)
             return refused(LERNAZHUP_RUNOUT, s);
         if (has_bad_byte(chips + at, radio->chips))
             return refused(LERNAZHUP_NOCHIP, s);
-        value = match(radio, chips + at, &away);
-        if (value == NO_WORD)
+        symbol = match(radio, chips + at);
+        if (symbol.number == LERNAZHUP_LOST)
             return refused(LERNAZHUP_LOST, s);
-        count += away;
-        raw[s] = raw_of(radio, encoded, value);
-        encoded = value;
+        count += symbol.nearest;
+        gaps[s] = gap_of(symbol);
+        raw[s] = raw_of(radio, encoded, symbol.word);
+        encoded = symbol.word;
         if (s < PREAMBLE_OCTETS * radio->per_octet && raw[s] != 0)
             return refused(LERNAZHUP_PREAMBLE, s);
         if (s + 1 == 5 * radio->per_octet && octet_of(radio, raw, 4) != START_OCTET)
@@ -242,7 +286,7 @@ lernazhup_reading reference_read(uint32_t mode, const uint8_t *chips, size_t chi
     }
     for (k = 0; k < n; k++)
         report[k] = (uint8_t)octet_of(radio, raw, HEAD_OCTETS + k);
-    return done(s, n, count);
+    return done(s, n, count, least(gaps, s));
 }
 
 /* ---- The stepping receiver ---- */
@@ -250,7 +294,8 @@ lernazhup_reading reference_read(uint32_t mode, const uint8_t *chips, size_t chi
 /*
  * Document 01 doesn't say what a record keeps of the octet in hand, which shows where push is given
  * a forged record. Here and in the library `last` is the value of the last symbol taken and `octet`
- * holds the last eight raw bits, the newest at the top.
+ * holds the last eight raw bits, the newest at the top. `gap` is the least so far, whatever was
+ * held before, and no test of 34 looks at it.
  */
 
 static lernazhup_step step(uint32_t number, lernazhup_receiver r)
@@ -293,20 +338,23 @@ lernazhup_step reference_start(uint32_t mode)
     memset(&r, 0, sizeof r);
     r.mode = mode;
     r.ended = radio_of(mode) != NULL ? LERNAZHUP_MORE : LERNAZHUP_BADMODE;
+    r.gap = UINT32_MAX;
     return step(r.ended, r);
 }
 
 /* One symbol of the right length, taken into an open record by the reading order. */
-static lernazhup_step take_symbol(const struct radio *radio, lernazhup_receiver r, const uint8_t *symbol)
+static lernazhup_step take_symbol(const struct radio *radio, lernazhup_receiver r,
+    const uint8_t *part)
 {
-    uint32_t next = r.taken + 1, per_octet = radio->per_octet, away = 0, value, raw, octet;
+    uint32_t next = r.taken + 1, per_octet = radio->per_octet, raw, octet;
+    lernazhup_matched symbol;
 
-    if (has_bad_byte(symbol, radio->chips))
+    if (has_bad_byte(part, radio->chips))
         return ended_by(LERNAZHUP_NOCHIP, r);
-    value = match(radio, symbol, &away);
-    if (value == NO_WORD)
+    symbol = match(radio, part);
+    if (symbol.number == LERNAZHUP_LOST)
         return ended_by(LERNAZHUP_LOST, r);
-    raw = raw_of(radio, r.last, value);
+    raw = raw_of(radio, r.last, symbol.word);
     /* Symbols come lowest first: each goes in at the top and pushes the ones before it down. */
     octet = (r.octet % 256 >> radio->bits) + (raw << (8 - radio->bits));
     if (r.taken < PREAMBLE_OCTETS * per_octet && raw != 0)
@@ -314,8 +362,10 @@ static lernazhup_step take_symbol(const struct radio *radio, lernazhup_receiver 
     if (next == 5 * per_octet && octet != START_OCTET)
         return ended_by(LERNAZHUP_BADSTART, r);
     r.taken = next;
-    r.count += away;
-    r.last = value;
+    r.count += symbol.nearest;
+    if (gap_of(symbol) < r.gap)
+        r.gap = gap_of(symbol);
+    r.last = symbol.word;
     r.octet = octet;
     if (next == 6 * per_octet)
         r.length = octet % 128;
@@ -359,7 +409,7 @@ lernazhup_reading reference_take(lernazhup_receiver r, uint8_t *report, size_t r
         return refused(LERNAZHUP_NOROOM, r.taken);
     for (k = 0; k < r.length; k++)
         report[k] = r.octets[k];
-    return done(r.taken, r.length, r.count);
+    return done(r.taken, r.length, r.count, r.gap);
 }
 
 /* ---- The frame check ---- */

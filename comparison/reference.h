@@ -1,7 +1,8 @@
 /*
- * The reference: document 01 in plain C, with the third radio and the frame check of document 02
- * and the signatures of the library. The differential test compares the library with it. It was
- * written from the documents and the header, without sight of the library's source.
+ * The reference: document 01 in plain C, with the third radio, the frame check, the reserved bit
+ * and the gap of document 02 and the signatures of the library. The differential test compares the
+ * library with it. It was written from the documents and the header, without sight of the library's
+ * source.
  */
 #ifndef REFERENCE_H
 #define REFERENCE_H
@@ -13,6 +14,7 @@ enum { MODES = 3 };
 
 lernazhup_written reference_write(uint32_t mode, const uint8_t *report, size_t report_len, uint8_t *chips, size_t chips_len);
 lernazhup_reading reference_read(uint32_t mode, const uint8_t *chips, size_t chips_len, uint8_t *report, size_t report_len);
+lernazhup_matched reference_match(uint32_t mode, const uint8_t *part, size_t part_len);
 lernazhup_step reference_start(uint32_t mode);
 lernazhup_step reference_push(lernazhup_receiver receiver, const uint8_t *part, size_t part_len);
 lernazhup_step reference_finish(lernazhup_receiver receiver);

@@ -25,15 +25,27 @@ static unsigned damage(uint8_t *chips, size_t length, size_t size, unsigned limi
     return wrong;
 }
 
+/* What a gap says to whoever places the aerial. None is larger than that of a frame as sent. A wrong
+ * chip may take two off it; where as many as are accepted all did, one more in that symbol is a
+ * lost frame. */
+static const char *closeness(uint32_t mode, uint32_t gap)
+{
+    uint32_t best = LERNAZHUP_BY_MODE(mode, 15u, 12u, 6u);
+    if (gap == best)
+        return "the best there is";
+    return gap == best - 2 * LERNAZHUP_ACCEPTED(mode) ? "at the edge" : "in between";
+}
+
 /* The answer in words, the report without the two octets of its FCS. Before the call the report
  * buffer was full of blanks: a refusal leaves it so. */
-static void tell(const char *how, lernazhup_reading answer, const uint8_t *report)
+static void tell(const char *how, uint32_t mode, lernazhup_reading answer, const uint8_t *report)
 {
     size_t kept = 0;
     printf("  %s: %u, %s", how, (unsigned)answer.number, lernazhup_meaning(answer.number));
     if (answer.number == LERNAZHUP_DONE) {
-        printf(": '%.*s', %u symbols, %u chips repaired\n", (int)answer.n - 2, (const char *)report,
+        printf(": '%.*s', %u symbols, %u chips repaired, ", (int)answer.n - 2, (const char *)report,
                (unsigned)answer.place, (unsigned)answer.count);
+        printf("gap %u, %s\n", (unsigned)answer.gap, closeness(mode, answer.gap));
         return;
     }
     while (kept < LERNAZHUP_REPORT_MAX && report[kept] == ' ')
@@ -46,7 +58,7 @@ static void read_whole(uint32_t mode, const uint8_t *chips, size_t length)
 {
     uint8_t report[LERNAZHUP_REPORT_MAX];
     memset(report, ' ', sizeof report);
-    tell("whole", lernazhup_read_checked(mode, chips, length, report, sizeof report), report);
+    tell("whole", mode, lernazhup_read_checked(mode, chips, length, report, sizeof report), report);
 }
 
 /* What lernazhup_read_checked gives, of a receiver; the report has room for LERNAZHUP_REPORT_MAX
@@ -61,7 +73,7 @@ static lernazhup_reading take_checked(lernazhup_receiver receiver, uint8_t *repo
     if (answer.number == LERNAZHUP_DONE)
         memcpy(report, octets, answer.n);
     else
-        answer.n = answer.count = 0;
+        answer.n = answer.count = answer.gap = 0;
     return answer;
 }
 
@@ -78,7 +90,7 @@ static void read_by_symbol(uint32_t mode, const uint8_t *chips, size_t length)
         number = lernazhup_push_into(&receiver, chips + at, size);
     if (number == LERNAZHUP_MORE)
         lernazhup_finish_into(&receiver);
-    tell("by symbol", take_checked(receiver, report), report);
+    tell("by symbol", mode, take_checked(receiver, report), report);
 }
 
 static void read_both_ways(const char *when, uint32_t mode, const uint8_t *chips, size_t length)
@@ -100,7 +112,7 @@ static void find_frames(uint32_t mode, const uint8_t *stream, size_t length)
             lernazhup_read_checked(mode, stream + at, length - at, report, sizeof report);
         if (answer.number == LERNAZHUP_DONE) {
             snprintf(where, sizeof where, "at chip %u", (unsigned)at);
-            tell(where, answer, report);
+            tell(where, mode, answer, report);
             at += (size_t)answer.place * LERNAZHUP_SYMBOL_CHIPS(mode);
         } else {
             at++;

@@ -27,7 +27,7 @@
  * 100 random symbols 60.7 are near one in mode 0, which accepts six wrong chips of fifteen, 3.3 in
  * mode 2 and 0.09 in mode 1. Where noise takes the place of one symbol of a report, another report
  * is read three times in ten in mode 0, three times in a hundred in mode 2 and less than once in a
- * thousand in mode 1. The count of chips repaired is no more than a hint.
+ * thousand in mode 1. The count of chips repaired and the gap are no more than hints.
  * What the checked one finds for certain besides: of two different reports of one length that both
  * end in their right FCS, four bits or more differ, an even number of them, and never all within 16
  * in a row (an octet's lowest bit goes first). So up to three wrong bits are always found, and one
@@ -43,6 +43,14 @@
  * LERNAZHUP_ALLZERO, since zeros are what an unplugged rope gives. That is for zeros throughout:
  * behind any octet that isn't 0, as behind the header of a MAC frame, zeros pass, and to look at
  * what a report carries is the gateway's part.
+ *
+ * How close it was: the gap. Of a symbol it is by how many chips the next-nearest code word is
+ * farther off than the nearest; of a reading it is the smallest over the symbols of the frame,
+ * preamble, start and length octet among them. A frame as written has 15, 12 and 6 in modes 0, 1
+ * and 2; one that is read has at least 3, 2 and 2; a refusal has 0. A wrong chip put right never
+ * makes it smaller, and what comes behind the frame has no say in it. In mode 0 it is 15 less twice
+ * the wrong chips of the worst symbol. In modes 1 and 2 it is even, and some wrong chips leave it
+ * as it was: README.md says how many may.
  *
  * Who finds the frame: the caller. The first chip of a buffer is taken for the first chip of the
  * preamble, and no other beginning is looked for. In a stream, try one chip after the other as the
@@ -66,13 +74,13 @@
  * every object in C. Nothing is kept of a buffer after the call, nothing is allocated, and there is
  * no state outside the arguments: calls may run at the same time, each on its own buffers.
  *
- * What stands below at lernazhup_write, _read, _write_checked, _read_checked, _check, _fcs,
+ * What stands below at lernazhup_write, _read, _match, _write_checked, _read_checked, _check, _fcs,
  * _fcs_bitwise, _start, _push, _finish and _take about answers, records and lent bytes is proved,
- * and so is what either profile refuses or finds for certain. Null pointers, the layout of the
- * structs, the stack (under 4 KiB a call), the lack of allocation and what is written in C are
- * tested. How to search a stream is advice: the example gateway runs it, and no theorem is about
- * it. The library is for x86-64. The rules on buffers are checked by nothing: they are yours to
- * keep. */
+ * and so is what either profile refuses or finds for certain, and what the gap is at least and as
+ * written. Null pointers, the layout of the structs, the stack (under 4 KiB a call), the lack of
+ * allocation and what is written in C are tested. How to search a stream is advice: the example
+ * gateway runs it, and no theorem is about it. The library is for x86-64. The rules on buffers are
+ * checked by nothing: they are yours to keep. */
 #ifndef LERNAZHUP_H
 #define LERNAZHUP_H
 
@@ -86,10 +94,10 @@ extern "C" {
 /* The version of this header. The major number rises where a struct grows or a number, a name or a
  * rule goes or changes its meaning, so that callers have to do something (CHANGELOG.md says what);
  * the minor number where something is added; the last where nothing changes that a caller sees. */
-#define LERNAZHUP_VERSION_MAJOR 2
+#define LERNAZHUP_VERSION_MAJOR 3
 #define LERNAZHUP_VERSION_MINOR 0
 #define LERNAZHUP_VERSION_PATCH 0
-#define LERNAZHUP_VERSION "2.0.0"
+#define LERNAZHUP_VERSION "3.0.0"
 
 /* The numbers given back. */
 #define LERNAZHUP_DONE 0u      /* done                                   write, read, push, take */
@@ -97,12 +105,12 @@ extern "C" {
 #define LERNAZHUP_TOOLONG 2u   /* report longer than 127 (checked: 125)  write */
 #define LERNAZHUP_NOROOM 3u    /* lent buffer too short                  write, read, take */
 #define LERNAZHUP_RUNOUT 4u    /* chips run out                          read, finish; take */
-#define LERNAZHUP_NOCHIP 5u    /* byte that isn't a chip                 read, push; take */
-#define LERNAZHUP_LOST 6u      /* symbol lost                            read, push; take */
+#define LERNAZHUP_NOCHIP 5u    /* byte that isn't a chip                 read, match, push; take */
+#define LERNAZHUP_LOST 6u      /* symbol lost                            read, match, push; take */
 #define LERNAZHUP_PREAMBLE 7u  /* preamble not zero                      read, push; take */
 #define LERNAZHUP_BADSTART 8u  /* wrong start octet                      read, push; take */
 #define LERNAZHUP_ENDED 10u    /* receiver already ended                 push, finish */
-#define LERNAZHUP_BADPART 11u  /* part isn't exactly one symbol long     push */
+#define LERNAZHUP_BADPART 11u  /* part isn't exactly one symbol long     match, push */
 #define LERNAZHUP_NOTENDED 12u /* receiver not ended yet                 take */
 #define LERNAZHUP_MORE 13u     /* more wanted (no refusal)               start, push */
 #define LERNAZHUP_TOOFEW 14u   /* too few octets                         write, read, check */
@@ -110,9 +118,10 @@ extern "C" {
 #define LERNAZHUP_ALLZERO 16u  /* every octet 0                          write, read, check */
 #define LERNAZHUP_FORGED 34u   /* record that these calls don't make     push, finish, take */
 /* "write" and "read" stand for write_checked and read_checked as well, and from LERNAZHUP_TOOFEW to
- * LERNAZHUP_ALLZERO for these alone. Check gives LERNAZHUP_DONE, too. "; take": take repeats the
- * number of a record that ended with it. A lost symbol is one that no code word is near enough to.
- * 9 is withdrawn, and not used again: it was a length octet with its reserved bit set. */
+ * LERNAZHUP_ALLZERO for these alone. Check and match give LERNAZHUP_DONE, too, and match
+ * LERNAZHUP_BADMODE. "; take": take repeats the number of a record that ended with it. A lost
+ * symbol is one that no code word is near enough to. 9 is withdrawn, and not used again: it was a
+ * length octet with its reserved bit set. */
 
 /* Sizes: the octets of the longest report, and of the longest that the FCS can be appended to; in
  * each mode the chips of a symbol, how many of them may be wrong, and the chips of the longest
@@ -150,6 +159,17 @@ typedef struct {
     uint32_t chips;  /* chips written; 0 on a refusal */
 } lernazhup_written;
 
+/* What matching one symbol gives back. The symbol's gap is next less nearest. With a refusal other
+ * than LERNAZHUP_LOST all three are 0. */
+typedef struct {
+    uint32_t number;  /* LERNAZHUP_DONE or the refusal */
+    uint32_t word;    /* the nearest code word's number, the lowest where several are as near; in
+                         mode 0 the encoded bit */
+    uint32_t nearest; /* chips in which the symbol differs from that word */
+    uint32_t next;    /* chips in which it differs from the nearest of the other words: as many as
+                         nearest where several are as near */
+} lernazhup_matched;
+
 /* What the readers and take give back. */
 typedef struct {
     uint32_t number; /* LERNAZHUP_DONE or the refusal */
@@ -157,6 +177,7 @@ typedef struct {
                         first thing was found wrong, or as the function says */
     uint32_t n;      /* octets of the report; 0 on a refusal */
     uint32_t count;  /* chips repaired, over the whole frame; 0 on a refusal */
+    uint32_t gap;    /* the smallest gap of a symbol of the frame; 0 on a refusal */
 } lernazhup_reading;
 
 /* The stepping receiver's record. It goes into each call and comes back from it; nothing else is
@@ -168,7 +189,8 @@ typedef struct {
  *   - its count is above the accepted distance times the symbols taken;
  *   - it is open, and no fewer symbols are taken than its frame has;
  *   - it has ended well, and not just as many symbols are taken as its frame has.
- * Its frame is that of a report of the length held. */
+ * Its frame is that of a report of the length held. The gap is in no test: of a record that has
+ * ended well take gives it as it is held. */
 typedef struct {
     uint32_t mode;   /* as given to start */
     uint32_t ended;  /* LERNAZHUP_MORE while open, LERNAZHUP_DONE ended well, else the refusal */
@@ -177,6 +199,7 @@ typedef struct {
     uint32_t count;  /* chips repaired so far */
     uint32_t last;   /* the last symbol's value: in mode 0 the encoded bit before the next one */
     uint32_t octet;  /* the octet in hand */
+    uint32_t gap;    /* the smallest gap of a symbol so far; UINT32_MAX before the first */
     uint8_t octets[LERNAZHUP_REPORT_MAX]; /* the report's octets so far */
 } lernazhup_receiver;
 
@@ -204,6 +227,13 @@ lernazhup_written lernazhup_write(uint32_t mode, const uint8_t *report, size_t r
  * was. */
 lernazhup_reading lernazhup_read(uint32_t mode, const uint8_t *chips, size_t chips_len,
                                  uint8_t *report, size_t report_len);
+
+/* Matches one symbol's chips, LERNAZHUP_SYMBOL_CHIPS(mode) bytes, with the mode's code words.
+ * Done: the nearest word is within the accepted distance, and is what readers and receiver take.
+ * Refused: LERNAZHUP_BADMODE, LERNAZHUP_BADPART and LERNAZHUP_NOCHIP, tested in that order, with
+ * zeros; then LERNAZHUP_LOST where no word is within the accepted distance, with the nearest word
+ * and both distances all the same. */
+lernazhup_matched lernazhup_match(uint32_t mode, const uint8_t *part, size_t part_len);
 
 /* Writes the frame of a report with its FCS appended, which is that of report_len + 2 octets.
  * Done: as lernazhup_write.
@@ -236,7 +266,7 @@ uint32_t lernazhup_fcs(const uint8_t *octets, size_t octets_len);
 uint32_t lernazhup_fcs_bitwise(const uint8_t *octets, size_t octets_len);
 
 /* A record for a mode, and LERNAZHUP_MORE. A mode that no radio has: a record that has ended with
- * LERNAZHUP_BADMODE, and that number. */
+ * LERNAZHUP_BADMODE, and that number. In either the gap is UINT32_MAX; what isn't named is 0. */
 lernazhup_step lernazhup_start(uint32_t mode);
 
 /* Takes one symbol's chips, LERNAZHUP_SYMBOL_CHIPS(mode) bytes.
@@ -303,12 +333,18 @@ const char *lernazhup_version(void);
 LERNAZHUP_FIXED(written, sizeof(lernazhup_written) == 8);
 LERNAZHUP_AT(written, number, 0);
 LERNAZHUP_AT(written, chips, 4);
-LERNAZHUP_FIXED(reading, sizeof(lernazhup_reading) == 16);
+LERNAZHUP_FIXED(matched, sizeof(lernazhup_matched) == 16);
+LERNAZHUP_AT(matched, number, 0);
+LERNAZHUP_AT(matched, word, 4);
+LERNAZHUP_AT(matched, nearest, 8);
+LERNAZHUP_AT(matched, next, 12);
+LERNAZHUP_FIXED(reading, sizeof(lernazhup_reading) == 20);
 LERNAZHUP_AT(reading, number, 0);
 LERNAZHUP_AT(reading, place, 4);
 LERNAZHUP_AT(reading, n, 8);
 LERNAZHUP_AT(reading, count, 12);
-LERNAZHUP_FIXED(receiver, sizeof(lernazhup_receiver) == 156);
+LERNAZHUP_AT(reading, gap, 16);
+LERNAZHUP_FIXED(receiver, sizeof(lernazhup_receiver) == 160);
 LERNAZHUP_AT(receiver, mode, 0);
 LERNAZHUP_AT(receiver, ended, 4);
 LERNAZHUP_AT(receiver, taken, 8);
@@ -316,8 +352,9 @@ LERNAZHUP_AT(receiver, length, 12);
 LERNAZHUP_AT(receiver, count, 16);
 LERNAZHUP_AT(receiver, last, 20);
 LERNAZHUP_AT(receiver, octet, 24);
-LERNAZHUP_AT(receiver, octets, 28);
-LERNAZHUP_FIXED(step, sizeof(lernazhup_step) == 160);
+LERNAZHUP_AT(receiver, gap, 28);
+LERNAZHUP_AT(receiver, octets, 32);
+LERNAZHUP_FIXED(step, sizeof(lernazhup_step) == 164);
 LERNAZHUP_AT(step, number, 0);
 LERNAZHUP_AT(step, receiver, 4);
 #undef LERNAZHUP_AT

@@ -10,7 +10,7 @@
 #include "lernazhup.h"
 
 /* The reader that most engineers would write: a shift register, XOR with each word, a popcount, the
- * best word. */
+ * best word and the second best. */
 lernazhup_reading usual_read(uint32_t mode, const uint8_t *chips, size_t chips_len, uint8_t *report, size_t report_len);
 
 /* The same with a popcount of its own, by shifts and adds (usual_read.c, built with

@@ -17,6 +17,7 @@ struct progress {
     __m128i seen;    /* every byte read, OR-ed: above 1 where one isn't a chip */
     __m128i counts;  /* chips repaired, in parts still to be summed */
     __m128i far;     /* mode 0: the largest distances */
+    __m128i gaps;    /* modes 1, 2: the least gaps, less the limit and 2, in places 0 and 4 of 8 */
     unsigned last;   /* mode 0: the encoded bit before the next one */
     unsigned values; /* modes 1, 2: every symbol's value, OR-ed; 16 where no word is near enough */
 };
@@ -74,31 +75,51 @@ static inline __m128i rows(unsigned table, const uint8_t *chips, struct progress
     return _mm_add_epi8(_mm_load_si128((const __m128i *)low), _mm_load_si128((const __m128i *)high));
 }
 
-/* One symbol's value, or 16 where no word is near enough. At most one of the 16 sums is negative,
- * which as a byte without sign is 250 to 255 in mode 1 and 253 to 255 in mode 2: taking 249 or 252
- * off, but nothing below 0, leaves its distance and 1, and 0 for all the others. The length is a
- * constant where octets are read, and this is put in there whole. */
-static inline unsigned oqpsk_symbol(const uint8_t *chips, size_t length, struct progress *progress, __m128i *distance)
+/* One symbol's 16 sums. The length is a constant where octets are read, and this is put in there
+ * whole. */
+static inline __m128i oqpsk_sums(const uint8_t *chips, size_t length, struct progress *progress)
 {
-    __m128i sums;
-    if (length == 32)
-        sums = _mm_add_epi8(rows(FIRST32, chips, progress), rows(FIRST32 + 2, chips + 16, progress));
-    else
-        sums = rows(FIRST16, chips, progress);
-    *distance = _mm_subs_epu8(sums, _mm_set1_epi8((char)(length == 32 ? 249 : 252)));
+    if (length == 16)
+        return rows(FIRST16, chips, progress);
+    return _mm_add_epi8(rows(FIRST32, chips, progress), rows(FIRST32 + 2, chips + 16, progress));
+}
+
+/* A symbol's value, or 16 where no word is near enough. */
+static inline unsigned oqpsk_value(__m128i sums)
+{
     return (unsigned)__builtin_ctz((unsigned)_mm_movemask_epi8(sums) | 0x10000);
 }
 
-static inline void oqpsk_octets(size_t length, const uint8_t *chips, size_t octets_len, uint8_t *octets, struct progress *kept)
+/* Of two symbols' sums, a symbol in each half: the distances are added to the counts, and the gaps
+ * are kept where they are less. At most one sum of a symbol is negative, which as a byte without
+ * sign is 250 to 255 in mode 1 and 253 to 255 in mode 2. So it is the largest, and taking 249 or
+ * 252 off, but nothing below 0, leaves its distance and 1, and 0 of all the others; the least is
+ * the next-nearest word's, less the limit and 1. */
+static inline void oqpsk_distances(__m128i first, __m128i second, size_t length,
+                                   struct progress *progress)
+{
+    __m128i front = _mm_unpacklo_epi64(first, second), back = _mm_unpackhi_epi64(first, second);
+    __m128i off = _mm_set1_epi8((char)(length == 32 ? 249 : 252));
+    __m128i near = _mm_sad_epu8(_mm_subs_epu8(_mm_max_epu8(front, back), off), _mm_setzero_si128());
+    __m128i next = _mm_min_epu8(front, back);
+    next = _mm_min_epu8(next, _mm_srli_epi64(next, 32));
+    next = _mm_min_epu8(next, _mm_srli_epi64(next, 16));
+    next = _mm_min_epu8(next, _mm_srli_epi64(next, 8));
+    next = _mm_and_si128(next, _mm_set1_epi64x(255));
+    progress->counts = _mm_add_epi64(progress->counts, near);
+    progress->gaps = _mm_min_epi16(progress->gaps, _mm_sub_epi16(next, near));
+}
+
+static inline void oqpsk_octets(size_t length, const uint8_t *chips, size_t octets_len,
+                                uint8_t *octets, struct progress *kept)
 {
     struct progress progress = *kept;
     size_t i;
     for (i = 0; i < octets_len; i++, chips += 2 * length) {
-        __m128i first, second;
-        unsigned low = oqpsk_symbol(chips, length, &progress, &first);
-        unsigned high = oqpsk_symbol(chips + length, length, &progress, &second);
-        __m128i both = _mm_sad_epu8(_mm_add_epi8(first, second), _mm_setzero_si128());
-        progress.counts = _mm_add_epi64(progress.counts, both);
+        __m128i first = oqpsk_sums(chips, length, &progress);
+        __m128i second = oqpsk_sums(chips + length, length, &progress);
+        unsigned low = oqpsk_value(first), high = oqpsk_value(second);
+        oqpsk_distances(first, second, length, &progress);
         progress.values |= low | high;
         octets[i] = (uint8_t)(low | high << 4);
     }
@@ -187,6 +208,21 @@ static uint32_t repaired(uint32_t mode, uint32_t symbols, const struct progress 
     return mode == 0 ? sum : sum - symbols;
 }
 
+/* Mode 0: a symbol's distances from the two words add up to 15, so that the farthest has the least
+ * gap. Modes 1 and 2: the lesser of the two kept, with what it lacks. */
+static uint32_t least_gap(uint32_t mode, const struct progress *progress)
+{
+    int16_t far[8], gaps[8];
+    int farthest = 0, i;
+    memcpy(far, &progress->far, sizeof far);
+    memcpy(gaps, &progress->gaps, sizeof gaps);
+    if (mode > 0)
+        return LERNAZHUP_ACCEPTED(mode) + 2 + (uint32_t)(gaps[0] < gaps[4] ? gaps[0] : gaps[4]);
+    for (i = 0; i < 8; i++)
+        farthest = far[i] > farthest ? far[i] : farthest;
+    return 15 - 2 * (uint32_t)farthest;
+}
+
 /* Whether the header is that of a frame which the buffers have room for. */
 static int fits(const uint8_t *header, size_t chips_len, size_t octet_chips, size_t report_len)
 {
@@ -199,11 +235,12 @@ lernazhup_reading best_read(uint32_t mode, const uint8_t *chips, size_t chips_le
 {
     struct progress progress;
     uint8_t header[HEADER], octets[LERNAZHUP_REPORT_MAX];
-    lernazhup_reading reading = {LERNAZHUP_DONE, 0, 0, 0};
+    lernazhup_reading reading = {LERNAZHUP_DONE, 0, 0, 0, 0};
     size_t octet_chips = LERNAZHUP_BY_MODE(mode, BPSK_OCTET, 64, 32);
     if (mode > 2 || chips_len < HEADER * octet_chips)
         return usual_read(mode, chips, chips_len, report, report_len);
     memset(&progress, 0, sizeof progress);
+    progress.gaps = _mm_set1_epi16(INT16_MAX);
     if (mode == 0)
         bpsk_header(chips, header, &progress);
     else
@@ -216,6 +253,7 @@ lernazhup_reading best_read(uint32_t mode, const uint8_t *chips, size_t chips_le
         return usual_read(mode, chips, chips_len, report, report_len);
     reading.place = (HEADER + reading.n) * (mode == 0 ? 8 : 2);
     reading.count = repaired(mode, reading.place, &progress);
+    reading.gap = least_gap(mode, &progress);
     if (reading.n > 0)
         memcpy(report, octets, reading.n);
     return reading;

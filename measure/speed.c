@@ -33,7 +33,7 @@ typedef uint32_t checker(const uint8_t *, size_t);
 static uint8_t reports[FRAMES][OCTETS], unsealed[FRAMES][OCTETS];
 static uint8_t clean[MODES][FRAMES][LERNAZHUP_CHIPS_MAX];
 static uint8_t noisy[MODES][FRAMES][LERNAZHUP_CHIPS_MAX];
-static uint32_t wrong_chips[MODES][FRAMES];
+static uint32_t wrong_chips[MODES][FRAMES], gaps[MODES][FRAMES];
 static size_t frames = FRAMES;
 
 struct contestant {
@@ -84,15 +84,20 @@ static uint32_t spoil(uint8_t *chips, uint32_t mode)
     return inverted;
 }
 
+/* A frame without errors and with them. The gap of the latter is for the usual reader to say, and
+ * for the others to agree to. */
 static void make_frame(uint32_t mode, size_t frame)
 {
+    uint8_t report[OCTETS];
     size_t at;
-    lernazhup_written written = copying_write(mode, reports[frame], OCTETS, clean[mode][frame], frame_chips(mode));
+    lernazhup_written written =
+        copying_write(mode, reports[frame], OCTETS, clean[mode][frame], frame_chips(mode));
     if (written.number != LERNAZHUP_DONE || written.chips != frame_chips(mode))
         wrong("copying_write", mode);
     memcpy(noisy[mode][frame], clean[mode][frame], frame_chips(mode));
     for (at = 0; at < frame_chips(mode); at += LERNAZHUP_SYMBOL_CHIPS(mode))
         wrong_chips[mode][frame] += spoil(noisy[mode][frame] + at, mode);
+    gaps[mode][frame] = usual_read(mode, noisy[mode][frame], frame_chips(mode), report, OCTETS).gap;
 }
 
 static void make_frames(void)
@@ -168,13 +173,29 @@ static const uint8_t *chips_for(const struct contestant *contestant, size_t fram
     return contestant->with_noise ? noisy[contestant->mode][frame] : clean[contestant->mode][frame];
 }
 
+/* What the reading of a frame has to give back. */
+static lernazhup_reading due(const struct contestant *contestant, size_t frame)
+{
+    uint32_t mode = contestant->mode;
+    lernazhup_reading reading = {LERNAZHUP_DONE, 0, OCTETS, 0, 0};
+    reading.place = (uint32_t)(frame_chips(mode) / LERNAZHUP_SYMBOL_CHIPS(mode));
+    reading.gap = LERNAZHUP_BY_MODE(mode, 15u, 12u, 6u);
+    if (contestant->with_noise) {
+        reading.count = wrong_chips[mode][frame];
+        reading.gap = gaps[mode][frame];
+    }
+    return reading;
+}
+
 static void check_reader(const struct contestant *contestant, size_t frame)
 {
-    uint32_t mode = contestant->mode, count = contestant->with_noise ? wrong_chips[mode][frame] : 0;
+    uint32_t mode = contestant->mode;
     uint8_t report[OCTETS];
-    lernazhup_reading reading = contestant->read(mode, chips_for(contestant, frame), frame_chips(mode), report, OCTETS);
-    if (reading.number != LERNAZHUP_DONE || reading.place != frame_chips(mode) / LERNAZHUP_SYMBOL_CHIPS(mode) ||
-        reading.n != OCTETS || reading.count != count || memcmp(report, reports[frame], OCTETS) != 0)
+    lernazhup_reading expected = due(contestant, frame);
+    lernazhup_reading reading =
+        contestant->read(mode, chips_for(contestant, frame), frame_chips(mode), report, OCTETS);
+    if (memcmp(&reading, &expected, sizeof reading) != 0 ||
+        memcmp(report, reports[frame], OCTETS) != 0)
         wrong(contestant->name, mode);
 }
 
@@ -378,13 +399,13 @@ static void print_ratio(const struct ratio *ratio, uint32_t mode, int repetition
 static void print_ratios(int repetitions)
 {
     static const struct ratio ratios[] = {
-        {"lernazhup_read", "usual_read", {0.35, 0.28, 0.40, 0}},
+        {"lernazhup_read", "usual_read", {0.33, 0.30, 0.40, 0}},
         {"lernazhup_read", "usual_read, own popcount", {0}},
         {"lernazhup_read_checked", "lernazhup_read", {1.15, 1.15, 1.15, 0}},
         {"lernazhup_fcs", "usual_fcs", {0, 0, 0, 1.3}},
         {"lernazhup_write", "copying_write", {0.8, 1.5, 1.8, 0}},
         {"receiver", "lernazhup_read", {3.0, 3.0, 0, 0}},
-        {"receiver", "record handed on", {0, 1.6, 0, 0}},
+        {"receiver", "record handed on", {1.3, 1.3, 1.3, 0}},
         {"record handed on", "lernazhup_read", {0}},
         {"lernazhup_read, no errors", "usual_read, no errors", {0}},
         {"lernazhup_read", "best_read", {0}},

@@ -17,11 +17,11 @@
 enum { MODES = 3, LIMIT = 4096, STACK = 65536, OCTETS = LERNAZHUP_REPORT_MAX };
 enum {
     WRITE, READ, START, PUSH, FINISH, TAKE,
-    WRITE_CHECKED, READ_CHECKED, CHECK, FCS, FCS_BITWISE, CALLS
+    WRITE_CHECKED, READ_CHECKED, CHECK, FCS, FCS_BITWISE, MATCH, CALLS
 };
 static const char *const names[CALLS] = {
     "write", "read", "start", "push", "finish", "take",
-    "write_checked", "read_checked", "check", "fcs", "fcs_bitwise",
+    "write_checked", "read_checked", "check", "fcs", "fcs_bitwise", "match",
 };
 
 /* Chips of the longest frame. */
@@ -43,6 +43,7 @@ struct calls {
     __typeof__(lernazhup_check) *check;
     __typeof__(lernazhup_fcs) *fcs;
     __typeof__(lernazhup_fcs_bitwise) *fcs_bitwise;
+    __typeof__(lernazhup_match) *match;
 };
 
 static uint8_t report[OCTETS + 1], chips[LERNAZHUP_CHIPS_MAX];
@@ -55,6 +56,7 @@ static struct {
 static lernazhup_written written;
 static lernazhup_reading reading;
 static lernazhup_step step;
+static lernazhup_matched matched;
 static uint32_t answer;
 
 static lernazhup_written empty_write(uint32_t mode, const uint8_t *from, size_t from_len, uint8_t *to, size_t to_len)
@@ -99,17 +101,38 @@ static uint32_t empty_check(const uint8_t *octets, size_t octets_len)
     return answer;
 }
 
+static lernazhup_matched empty_match(uint32_t mode, const uint8_t *from, size_t from_len)
+{
+    (void)mode, (void)from, (void)from_len;
+    return matched;
+}
+
 static const struct calls library = {
     lernazhup_write, lernazhup_read, lernazhup_start, lernazhup_push, lernazhup_finish,
     lernazhup_take, lernazhup_write_checked, lernazhup_read_checked, lernazhup_check,
-    lernazhup_fcs, lernazhup_fcs_bitwise,
+    lernazhup_fcs, lernazhup_fcs_bitwise, lernazhup_match,
 };
 static const struct calls empty = {
     empty_write, empty_read, empty_start, empty_push, empty_finish, empty_take,
-    empty_write, empty_read, empty_check, empty_check, empty_check,
+    empty_write, empty_read, empty_check, empty_check, empty_check, empty_match,
 };
 static const struct calls *volatile calls;
 static int current;
+
+static void call_on_octets(void)
+{
+    switch (current) {
+    case CHECK:
+        answer = calls->check(report, given.report_len);
+        break;
+    case FCS:
+        answer = calls->fcs(report, given.report_len);
+        break;
+    case FCS_BITWISE:
+        answer = calls->fcs_bitwise(report, given.report_len);
+        break;
+    }
+}
 
 /* Runs on the painted stack. */
 static void call(void)
@@ -140,15 +163,11 @@ static void call(void)
     case READ_CHECKED:
         reading = calls->read_checked(given.mode, chips, given.chips_len, report, given.report_len);
         break;
-    case CHECK:
-        answer = calls->check(report, given.report_len);
+    case MATCH:
+        matched = calls->match(given.mode, part, given.part_len);
         break;
-    case FCS:
-        answer = calls->fcs(report, given.report_len);
-        break;
-    case FCS_BITWISE:
-        answer = calls->fcs_bitwise(report, given.report_len);
-        break;
+    default:
+        call_on_octets();
     }
 }
 
@@ -323,6 +342,28 @@ static void measure_zeros(uint32_t mode)
     expect(reading.number, LERNAZHUP_ALLZERO, READ_CHECKED);
 }
 
+/* A symbol with as many wrong chips as are accepted, and parts that are refused. */
+static void measure_match(uint32_t mode)
+{
+    uint8_t symbol[LERNAZHUP_SYMBOL_MAX];
+    given.mode = mode;
+    given.part_len = LERNAZHUP_SYMBOL_CHIPS(mode);
+    memcpy(symbol, chips, given.part_len);
+    part = symbol;
+    note(MATCH, mode);
+    expect(matched.number, LERNAZHUP_DONE, MATCH);
+    memset(symbol, 0, given.part_len);
+    note(MATCH, mode);
+    expect(matched.number, LERNAZHUP_LOST, MATCH);
+    symbol[given.part_len - 1] = 2;
+    note(MATCH, mode);
+    expect(matched.number, LERNAZHUP_NOCHIP, MATCH);
+    given.part_len--;
+    note(MATCH, mode);
+    expect(matched.number, LERNAZHUP_BADPART, MATCH);
+    part = chips;
+}
+
 /* Pushes, finishes and takes of the record in hand that are refused. */
 static void measure_refusals(uint32_t mode)
 {
@@ -391,6 +432,8 @@ static void measure_no_radio(void)
     note(CHECK, MODES);
     note(FCS, MODES);
     note(FCS_BITWISE, MODES);
+    note(MATCH, MODES);
+    expect(matched.number, LERNAZHUP_BADMODE, MATCH);
     note(START, MODES);
     expect(step.number, LERNAZHUP_BADMODE, START);
     given.receiver = step.receiver;
@@ -425,6 +468,7 @@ int main(void)
         measure_write(WRITE, OCTETS, mode);
         spoil(mode);
         measure_read(READ, mode);
+        measure_match(mode);
         measure_receiver(mode);
         memset(report, 0x53, sizeof report);
         measure_write(WRITE_CHECKED, LERNAZHUP_CHECKED_MAX, mode);

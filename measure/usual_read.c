@@ -2,9 +2,9 @@
  * library must beat.
  *
  * A symbol's chips are shifted into a word, first chip highest; the word is compared with every
- * code word by XOR and popcount; the nearest one is taken if it is near enough. It is compiled as
- * everything else here, for any x86-64, so the popcount is the compiler's own and not the
- * processor's instruction. */
+ * code word by XOR and popcount, and the best and the second best are kept; the best is taken if it
+ * is near enough. It is compiled as everything else here, for any x86-64, so the popcount is the
+ * compiler's own and not the processor's instruction. */
 #include <string.h>
 
 #include "baselines.h"
@@ -59,7 +59,7 @@ enum { START = 4, LENGTH = 5, HEADER = 6 };
 
 static lernazhup_reading refused(uint32_t number, uint32_t place)
 {
-    lernazhup_reading reading = {number, place, 0, 0};
+    lernazhup_reading reading = {number, place, 0, 0, 0};
     return reading;
 }
 
@@ -76,18 +76,23 @@ static int gather(const uint8_t *chips, uint32_t length, uint32_t *word)
     return 1;
 }
 
-/* The nearest code word's value, and its distance. */
-static uint32_t nearest(const struct radio *radio, uint32_t word, uint32_t *distance)
+/* The nearest code word's value, its distance, and that of the next-nearest. */
+static uint32_t nearest(const struct radio *radio, uint32_t word, uint32_t *distance,
+                        uint32_t *next)
 {
-    uint32_t best = 0, least = 33, value;
+    uint32_t best = 0, least = 33, second = 33, value;
     for (value = 0; value < radio->count; value++) {
         uint32_t differing = ones(word ^ radio->words[value]);
         if (differing < least) {
+            second = least;
             least = differing;
             best = value;
+        } else if (differing < second) {
+            second = differing;
         }
     }
     *distance = least;
+    *next = second;
     return best;
 }
 
@@ -101,9 +106,10 @@ static uint32_t header_fault(uint32_t at, uint8_t octet, size_t report_len)
     return 0;
 }
 
-static lernazhup_reading done(uint32_t place, uint32_t count, const uint8_t *octets, uint8_t *report)
+static lernazhup_reading done(uint32_t place, uint32_t count, uint32_t gap, const uint8_t *octets,
+                              uint8_t *report)
 {
-    lernazhup_reading reading = {LERNAZHUP_DONE, place, octets[LENGTH] & 127, count};
+    lernazhup_reading reading = {LERNAZHUP_DONE, place, octets[LENGTH] & 127, count, gap};
     if (reading.n > 0)
         memcpy(report, octets + HEADER, reading.n);
     return reading;
@@ -115,16 +121,17 @@ static lernazhup_reading read_frame(const struct radio *radio, const uint8_t *ch
                                     size_t report_len)
 {
     uint8_t octets[HEADER + LERNAZHUP_REPORT_MAX];
-    uint32_t per_octet = 8 / radio->bits, total = HEADER, count = 0, last = 0, place = 0, at, i;
+    uint32_t per_octet = 8 / radio->bits, total = HEADER, count = 0, gap = UINT32_MAX, last = 0;
+    uint32_t place = 0, at, i;
     for (at = 0; at < total; at++) {
         uint8_t octet = 0;
         for (i = 0; i < per_octet; i++, place++) {
-            uint32_t word, value, distance, raw, fault;
+            uint32_t word, value, distance, next, raw, fault;
             if (chips_len < radio->length)
                 return refused(LERNAZHUP_RUNOUT, place);
             if (!gather(chips, radio->length, &word))
                 return refused(LERNAZHUP_NOCHIP, place);
-            value = nearest(radio, word, &distance);
+            value = nearest(radio, word, &distance, &next);
             if (distance > radio->limit)
                 return refused(LERNAZHUP_LOST, place);
             raw = radio->chained ? value ^ last : value;
@@ -135,6 +142,7 @@ static lernazhup_reading read_frame(const struct radio *radio, const uint8_t *ch
             if (fault != 0)
                 return refused(fault, place);
             count += distance;
+            gap = next - distance < gap ? next - distance : gap;
             last = value;
             chips += radio->length;
             chips_len -= radio->length;
@@ -143,7 +151,7 @@ static lernazhup_reading read_frame(const struct radio *radio, const uint8_t *ch
         if (at == LENGTH)
             total += octet & 127;
     }
-    return done(place, count, octets, report);
+    return done(place, count, gap, octets, report);
 }
 
 lernazhup_reading usual_read(uint32_t mode, const uint8_t *chips, size_t chips_len, uint8_t *report, size_t report_len)

@@ -49,6 +49,7 @@ static void check_reading(uint32_t mode, const uint8_t *octets, size_t n)
     check("place", reading.place, length / LERNAZHUP_SYMBOL_CHIPS(mode));
     check("n", reading.n, n);
     check("count", reading.count, 0);
+    check("gap", reading.gap, LERNAZHUP_BY_MODE(mode, 15u, 12u, 6u));
     check("octets read", memcmp(report, octets, n) == 0, 1);
 }
 

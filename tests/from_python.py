@@ -17,12 +17,16 @@ class Written(ctypes.Structure):
     _fields_ = numbers("number", "chips")
 
 
+class Matched(ctypes.Structure):
+    _fields_ = numbers("number", "word", "nearest", "next")
+
+
 class Reading(ctypes.Structure):
-    _fields_ = numbers("number", "place", "n", "count")
+    _fields_ = numbers("number", "place", "n", "count", "gap")
 
 
 class Receiver(ctypes.Structure):
-    _fields_ = numbers("mode", "ended", "taken", "length", "count", "last", "octet")
+    _fields_ = numbers("mode", "ended", "taken", "length", "count", "last", "octet", "gap")
     _fields_ += [("octets", U8 * 127)]
 
 
@@ -35,6 +39,7 @@ def load(path):
     for name, result, arguments in [
         ("write", Written, [U32, BYTES, SIZE, BYTES, SIZE]),
         ("read", Reading, [U32, BYTES, SIZE, BYTES, SIZE]),
+        ("match", Matched, [U32, BYTES, SIZE]),
         ("write_checked", Written, [U32, BYTES, SIZE, BYTES, SIZE]),
         ("read_checked", Reading, [U32, BYTES, SIZE, BYTES, SIZE]),
         ("check", U32, [BYTES, SIZE]),
@@ -56,51 +61,78 @@ def values(struct):
     return tuple(getattr(struct, name) for name, _ in struct._fields_)
 
 
+# mode, chips a symbol, symbols an octet, gap as written; how far the next word is from the first
+# symbol with its first chip wrong; what flat chips match
+RADIOS = [
+    (0, 15, 8, 15, 14, (6, 1, 7, 8)),
+    (1, 32, 2, 12, 13, (6, 0, 16, 16)),
+    (2, 16, 2, 6, 5, (6, 0, 8, 8)),
+]
+TEXT = b"rope 12 wet"
+REPORT = (U8 * len(TEXT))(*TEXT)
+failed = []
+
+
+def check(what, got, want):
+    if got != want:
+        failed.append(what)
+        print(f"python, {what}: {got} and not {want}")
+
+
+def plain(library, mode, size, octet, gap, following):
+    """A frame with its first chip wrong, matched, read and stepped; its chips."""
+    symbols = (6 + len(TEXT)) * octet
+    chips = (U8 * (symbols * size))()
+    back = (U8 * 127)()
+    written = library.lernazhup_write(mode, REPORT, len(TEXT), chips, len(chips))
+    check("write", values(written), (0, len(chips)))
+    chips[0] ^= 1
+    check("match", values(library.lernazhup_match(mode, chips, size)), (0, 0, 1, following))
+    answer = (0, symbols, len(TEXT), 1, min(gap, following - 1))
+    check("read", values(library.lernazhup_read(mode, chips, len(chips), back, 127)), answer)
+    check("report", bytes(back[: len(TEXT)]), TEXT)
+    step = library.lernazhup_start(mode)
+    check("start", step.receiver.gap, 2**32 - 1)
+    for at in range(0, len(chips), size):
+        check("push", step.number, 13)
+        step = library.lernazhup_push(step.receiver, (U8 * size)(*chips[at : at + size]), size)
+    check("take", values(library.lernazhup_take(step.receiver, back, 127)), answer)
+    check("finish", library.lernazhup_finish(step.receiver).number, 10)
+    return chips
+
+
+def checked(library, mode, size, octet, gap, chips):
+    """A frame with its FCS, read, and those chips without one."""
+    symbols, back = (8 + len(TEXT)) * octet, (U8 * 127)()
+    longer = (U8 * (symbols * size))()
+    written = library.lernazhup_write_checked(mode, REPORT, len(TEXT), longer, len(longer))
+    check("write_checked", values(written), (0, len(longer)))
+    reading = library.lernazhup_read_checked(mode, longer, len(longer), back, 127)
+    check("read_checked", values(reading), (0, symbols, len(TEXT) + 2, 0, gap))
+    check("its report", bytes(back[: len(TEXT) + 2]), TEXT + b"\xb5\xc0")
+    check("check", library.lernazhup_check(back, len(TEXT) + 2), 0)
+    reading = library.lernazhup_read_checked(mode, chips, len(chips), back, 127)
+    check("read_checked without an FCS", values(reading), (15, symbols - 2 * octet, 0, 0, 0))
+
+
+def flat(library, mode, size, lost):
+    chips, back = (U8 * size)(), (U8 * 127)()
+    check("match of flat chips", values(library.lernazhup_match(mode, chips, size)), lost)
+    reading = library.lernazhup_read(mode, chips, size, back, 127)
+    check("flat chips", values(reading), (6, 0, 0, 0, 0))
+    check("their meaning", library.lernazhup_meaning(reading.number), b"symbol lost")
+
+
 def main():
     library = load(sys.argv[1])
-    text = b"rope 12 wet"
-    report = (U8 * len(text))(*text)
-    failed = 0
-
-    def check(what, got, want):
-        nonlocal failed
-        if got != want:
-            failed += 1
-            print(f"python, {what}: {got} and not {want}")
-
-    for mode, size, octet in [(0, 15, 8), (1, 32, 2), (2, 16, 2)]:
-        symbols = (6 + len(text)) * octet
-        chips = (U8 * (symbols * size))()
-        back = (U8 * 127)()
-        written = library.lernazhup_write(mode, report, len(text), chips, len(chips))
-        check("write", values(written), (0, len(chips)))
-        chips[0] ^= 1
-        answer = (0, symbols, len(text), 1)
-        check("read", values(library.lernazhup_read(mode, chips, len(chips), back, 127)), answer)
-        check("report", bytes(back[: len(text)]), text)
-        step = library.lernazhup_start(mode)
-        for at in range(0, len(chips), size):
-            check("push", step.number, 13)
-            step = library.lernazhup_push(step.receiver, (U8 * size)(*chips[at : at + size]), size)
-        check("take", values(library.lernazhup_take(step.receiver, back, 127)), answer)
-        check("finish", library.lernazhup_finish(step.receiver).number, 10)
-        longer = (U8 * ((symbols + 2 * octet) * size))()
-        written = library.lernazhup_write_checked(mode, report, len(text), longer, len(longer))
-        check("write_checked", values(written), (0, len(longer)))
-        reading = library.lernazhup_read_checked(mode, longer, len(longer), back, 127)
-        check("read_checked", values(reading), (0, symbols + 2 * octet, len(text) + 2, 0))
-        check("its report", bytes(back[: len(text) + 2]), text + b"\xb5\xc0")
-        check("check", library.lernazhup_check(back, len(text) + 2), 0)
-        reading = library.lernazhup_read_checked(mode, chips, len(chips), back, 127)
-        check("read_checked without an FCS", values(reading), (15, symbols, 0, 0))
-        flat = (U8 * len(chips))()
-        reading = library.lernazhup_read(mode, flat, len(flat), back, 127)
-        check("flat chips", values(reading), (6, 0, 0, 0))
-        check("their meaning", library.lernazhup_meaning(reading.number), b"symbol lost")
-    check("fcs", library.lernazhup_fcs(report, len(text)), 0xC0B5)
-    check("fcs_bitwise", library.lernazhup_fcs_bitwise(report, len(text)), 0xC0B5)
+    for mode, size, octet, gap, following, lost in RADIOS:
+        chips = plain(library, mode, size, octet, gap, following)
+        checked(library, mode, size, octet, gap, chips)
+        flat(library, mode, size, lost)
+    check("fcs", library.lernazhup_fcs(REPORT, len(TEXT)), 0xC0B5)
+    check("fcs_bitwise", library.lernazhup_fcs_bitwise(REPORT, len(TEXT)), 0xC0B5)
     check("version", library.lernazhup_version().decode(), sys.argv[2])
-    return failed != 0
+    return len(failed) != 0
 
 
 sys.exit(main())

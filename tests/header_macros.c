@@ -1,5 +1,5 @@
 /* What the header works out by itself, held against the library: sizes by mode number, the calls
- * that keep the record, the version. */
+ * that keep the record, the version; and what its comment says of the gap. */
 #include <stdio.h>
 #include <string.h>
 
@@ -53,13 +53,23 @@ static void checked(uint32_t mode)
 }
 
 /* The first symbol with so many chips wrong. */
-static uint32_t damaged(uint32_t mode, unsigned many)
+static lernazhup_reading damaged(uint32_t mode, unsigned many)
 {
     unsigned k;
     lernazhup_write(mode, report, 0, chips, sizeof chips);
     for (k = 0; k < many; k++)
         chips[k] ^= 1;
-    return lernazhup_read(mode, chips, LERNAZHUP_FRAME_CHIPS(mode, 0), report, 0).number;
+    return lernazhup_read(mode, chips, LERNAZHUP_FRAME_CHIPS(mode, 0), report, 0);
+}
+
+/* As written, with as many chips wrong as may be, and refused. */
+static void gaps(uint32_t mode)
+{
+    static const uint32_t written[MODES] = {15, 12, 6}, least[MODES] = {3, 2, 2};
+    unsigned accepted = LERNAZHUP_ACCEPTED(mode);
+    check("the gap of a frame as written", damaged(mode, 0).gap, written[mode]);
+    check("at least the smallest", damaged(mode, accepted).gap >= least[mode], 1);
+    check("the gap of a refusal", damaged(mode, accepted + 1).gap, 0);
 }
 
 static void symbols(uint32_t mode)
@@ -68,11 +78,14 @@ static void symbols(uint32_t mode)
     lernazhup_receiver receiver = lernazhup_start(mode).receiver;
     lernazhup_write(mode, report, 0, chips, sizeof chips);
     check("no longer than the longest", size <= LERNAZHUP_SYMBOL_MAX, 1);
-    for (k = 0; k <= LERNAZHUP_SYMBOL_MAX + 1; k++)
+    for (k = 0; k <= LERNAZHUP_SYMBOL_MAX + 1; k++) {
         check("chips of a symbol", lernazhup_push(receiver, chips, k).number,
               k == size ? LERNAZHUP_MORE : LERNAZHUP_BADPART);
-    check("wrong chips accepted", damaged(mode, LERNAZHUP_ACCEPTED(mode)), LERNAZHUP_DONE);
-    check("one more", damaged(mode, LERNAZHUP_ACCEPTED(mode) + 1), LERNAZHUP_LOST);
+        check("chips to match", lernazhup_match(mode, chips, k).number,
+              k == size ? LERNAZHUP_DONE : LERNAZHUP_BADPART);
+    }
+    check("wrong chips accepted", damaged(mode, LERNAZHUP_ACCEPTED(mode)).number, LERNAZHUP_DONE);
+    check("one more", damaged(mode, LERNAZHUP_ACCEPTED(mode) + 1).number, LERNAZHUP_LOST);
 }
 
 /* A call that keeps the record against one that gives it back: the same number, the same record up
@@ -106,6 +119,7 @@ int main(void)
         frames(mode);
         checked(mode);
         symbols(mode);
+        gaps(mode);
         lernazhup_write(mode, report, 5, chips, sizeof chips);
         kept(mode, LERNAZHUP_FRAME_CHIPS(mode, 5));
         kept(mode, LERNAZHUP_FRAME_CHIPS(mode, 5) - 1);

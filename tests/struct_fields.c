@@ -3,8 +3,8 @@
  * layout itself is fixed in the header.
  *
  * A record that ended with a refusal may hold anything: finish and push give it back as it was,
- * take repeats its number and place. The written, read and stepped numbers are worked out by hand
- * from the frame. */
+ * take repeats its number and place. The written, read, matched and stepped numbers are worked out
+ * by hand from the frame. */
 #include <stdio.h>
 #include <string.h>
 
@@ -37,6 +37,7 @@ static lernazhup_receiver filled(void)
     r.count = 0x51525354;
     r.last = 0x61626364;
     r.octet = 0x71727374;
+    r.gap = 0x01020304;
     for (k = 0; k < sizeof r.octets; k++)
         r.octets[k] = (uint8_t)(0x80 + k);
     return r;
@@ -51,15 +52,17 @@ static void same_record(lernazhup_receiver got, lernazhup_receiver want)
     check("count", got.count, want.count);
     check("last", got.last, want.last);
     check("octet", got.octet, want.octet);
+    check("gap", got.gap, want.gap);
     check("octets", (unsigned long)memcmp(got.octets, want.octets, sizeof got.octets), 0);
 }
 
-static void check_reading(lernazhup_reading got, uint32_t number, uint32_t place, uint32_t n, uint32_t count)
+static void check_reading(lernazhup_reading got, lernazhup_reading want)
 {
-    check("number", got.number, number);
-    check("place", got.place, place);
-    check("n", got.n, n);
-    check("count", got.count, count);
+    check("number", got.number, want.number);
+    check("place", got.place, want.place);
+    check("n", got.n, want.n);
+    check("count", got.count, want.count);
+    check("gap", got.gap, want.gap);
 }
 
 /* Every field of a record that the library itself made: a mode with two symbols an octet, five
@@ -73,9 +76,10 @@ static lernazhup_receiver stepped(uint32_t mode, const uint8_t *chips, size_t sy
     return step.receiver;
 }
 
-static void made_by_the_library(uint32_t mode, size_t length)
+static void made_by_the_library(uint32_t mode, size_t length, uint32_t gap)
 {
     static const uint8_t report[5] = {0x12, 0x34, 0x56, 0x78, 0x9A};
+    const lernazhup_reading read = {LERNAZHUP_DONE, 22, 5, 3, gap};
     uint8_t chips[704], back[LERNAZHUP_REPORT_MAX];
     size_t second = LERNAZHUP_SYMBOL_CHIPS(mode);
     lernazhup_receiver want;
@@ -90,7 +94,7 @@ static void made_by_the_library(uint32_t mode, size_t length)
     chips[second + 1] ^= 1;
     chips[second + 2] ^= 1;
     call = "read";
-    check_reading(lernazhup_read(mode, chips, length, back, sizeof back), LERNAZHUP_DONE, 22, 5, 3);
+    check_reading(lernazhup_read(mode, chips, length, back, sizeof back), read);
     memset(&want, 0, sizeof want);
     want.mode = mode;
     want.ended = LERNAZHUP_MORE;
@@ -100,18 +104,20 @@ static void made_by_the_library(uint32_t mode, size_t length)
     /* the low half of 0x34, which has entered the octet in hand above the high half of 0x12 */
     want.last = 4;
     want.octet = 0x41;
+    want.gap = gap;
     want.octets[0] = 0x12;
     call = "push";
     same_record(stepped(mode, chips, 15), want);
     call = "take";
-    check_reading(lernazhup_take(stepped(mode, chips, 22), back, sizeof back), LERNAZHUP_DONE, 22, 5, 3);
+    check_reading(lernazhup_take(stepped(mode, chips, 22), back, sizeof back), read);
     check("report", (unsigned long)memcmp(back, report, sizeof report), 0);
 }
 
 /* The structs of the checked calls: the same, with the FCS of five octets behind them. */
-static void checked_by_the_library(uint32_t mode, size_t length)
+static void checked_by_the_library(uint32_t mode, size_t length, uint32_t gap)
 {
     static const uint8_t report[7] = {0x12, 0x34, 0x56, 0x78, 0x9A, 0x3B, 0xCC};
+    const lernazhup_reading read = {LERNAZHUP_DONE, 26, 7, 1, gap};
     uint8_t chips[832], back[LERNAZHUP_REPORT_MAX];
     lernazhup_written written = lernazhup_write_checked(mode, report, 5, chips, length);
     call = "write_checked";
@@ -122,15 +128,34 @@ static void checked_by_the_library(uint32_t mode, size_t length)
     check("chips of a refusal", written.chips, 0);
     chips[0] ^= 1;
     call = "read_checked";
-    check_reading(lernazhup_read_checked(mode, chips, length, back, sizeof back), LERNAZHUP_DONE,
-                  26, 7, 1);
+    check_reading(lernazhup_read_checked(mode, chips, length, back, sizeof back), read);
     check("report", (unsigned long)memcmp(back, report, sizeof report), 0);
+}
+
+/* The symbol of 13 with its first chips wrong, more than are accepted: it is lost, and the nearest
+ * other word is two chips farther off. */
+static void matched_by_the_library(uint32_t mode, uint32_t wrong)
+{
+    static const uint8_t report[1] = {13};
+    uint8_t chips[LERNAZHUP_FRAME_CHIPS(1, 1)], *part = chips + LERNAZHUP_FRAME_CHIPS(mode, 0);
+    lernazhup_matched got;
+    uint32_t k;
+    lernazhup_write(mode, report, sizeof report, chips, sizeof chips);
+    for (k = 0; k < wrong; k++)
+        part[k] ^= 1;
+    got = lernazhup_match(mode, part, LERNAZHUP_SYMBOL_CHIPS(mode));
+    call = "match";
+    check("number", got.number, LERNAZHUP_LOST);
+    check("word", got.word, 13);
+    check("nearest", got.nearest, wrong);
+    check("next", got.next, wrong + 2);
 }
 
 static void given_back(void)
 {
     uint8_t part[LERNAZHUP_SYMBOL_MAX] = {0};
     lernazhup_receiver record = filled();
+    lernazhup_reading refused = {record.ended, record.taken, 0, 0, 0};
     lernazhup_step step = lernazhup_finish(record);
     call = "finish on an ended record";
     check("number", step.number, LERNAZHUP_ENDED);
@@ -140,21 +165,24 @@ static void given_back(void)
     check("number", step.number, LERNAZHUP_ENDED);
     same_record(step.receiver, record);
     call = "take of a refusal";
-    check_reading(lernazhup_take(record, part, sizeof part), record.ended, record.taken, 0, 0);
+    check_reading(lernazhup_take(record, part, sizeof part), refused);
     step = lernazhup_start(0x0A0B0C0D);
     call = "start";
     check("number", step.number, LERNAZHUP_BADMODE);
     check("mode", step.receiver.mode, 0x0A0B0C0D);
     check("ended", step.receiver.ended, LERNAZHUP_BADMODE);
+    check("gap", step.receiver.gap, UINT32_MAX);
 }
 
 int main(void)
 {
     given_back();
-    made_by_the_library(1, 704);
-    made_by_the_library(2, 352);
-    checked_by_the_library(1, 832);
-    checked_by_the_library(2, 416);
+    made_by_the_library(1, 704, 8);
+    made_by_the_library(2, 352, 4);
+    checked_by_the_library(1, 832, 12);
+    checked_by_the_library(2, 416, 4);
+    matched_by_the_library(1, 7);
+    matched_by_the_library(2, 3);
     printf("fields: %d values carried, %d wrong\n", passed + failed, failed);
     return failed != 0;
 }

@@ -1,7 +1,7 @@
-/* Writings, readings, checks and records, run over the archive and printed, a line each, to be
- * compared with tests/vectors.said. Those lines were worked out from the rules of the scope by a
- * model that is not kept here, and not by this code (what a receiver holds between symbols, which
- * the document doesn't say, from the definition).
+/* Writings, readings, matchings, checks and records, run over the archive and printed, a line each,
+ * to be compared with tests/vectors.said. Those lines were worked out from the rules of the scope
+ * by a model that is not kept here, and not by this code (what a receiver holds between symbols,
+ * which the document doesn't say, from the definition).
  *
  * Places and lengths are tested before they are used. A case that didn't fit would print no line,
  * and the comparison would show that. */
@@ -180,11 +180,12 @@ static void tell(size_t n, struct slice sent, const uint8_t lent[LENT])
     print_octets(n, lent);
 }
 
-/* The four numbers and what became of the lent buffer. The line goes on. */
+/* The five numbers and what became of the lent buffer. The line goes on. */
 static void answered(lernazhup_reading reading, struct slice sent, const uint8_t lent[LENT])
 {
-    printf("%" PRIu32 " %" PRIu32 " %" PRIu32 " %" PRIu32 ", %zu changed", reading.number, reading.place, reading.n,
-           reading.count, changed(lent, LENT));
+    printf("%" PRIu32 " %" PRIu32 " %" PRIu32, reading.number, reading.place, reading.n);
+    printf(" %" PRIu32 " %" PRIu32 ", %zu changed", reading.count, reading.gap,
+           changed(lent, LENT));
     if (reading.number == LERNAZHUP_DONE)
         tell(reading.n, sent, lent);
 }
@@ -250,8 +251,7 @@ static int agrees(uint32_t mode, struct slice chips, lernazhup_reading reading, 
     lernazhup_reading pushed;
     memset(other, BEFORE, LENT);
     pushed = receive(mode, chips, other, REPORT);
-    return memcmp(other, lent, LENT) == 0 && pushed.number == reading.number && pushed.place == reading.place &&
-           pushed.n == reading.n && pushed.count == reading.count;
+    return memcmp(other, lent, LENT) == 0 && memcmp(&pushed, &reading, sizeof reading) == 0;
 }
 
 /* Reads the chips into so many bytes of the lent buffer. A receiver asks for room at the end and a
@@ -511,6 +511,183 @@ static void readings_of(uint32_t mode)
     reserved(mode);
 }
 
+/* ---- One symbol matched ---- */
+
+static void match_line(const char *what, uint32_t mode, struct slice part)
+{
+    lernazhup_matched matched = lernazhup_match(mode, part.first, part.count);
+    printf("%s: match %" PRIu32 " chips %zu gives ", what, mode, part.count);
+    printf("%" PRIu32 " %" PRIu32, matched.number, matched.word);
+    printf(" %" PRIu32 " %" PRIu32 "\n", matched.nearest, matched.next);
+}
+
+/* A word's chips: the first symbol of a report of that octet alone, behind a header which leaves
+ * the chain of mode 0 at 0. */
+static void make_word(uint32_t mode, uint8_t value, uint8_t word[LERNAZHUP_SYMBOL_MAX])
+{
+    uint8_t chips[LONGEST];
+    lernazhup_write(mode, &value, 1, chips, LONGEST);
+    memcpy(word, chips + octet_at(mode, 6), radio_of(mode).size);
+}
+
+/* A word with some of its chips another byte. */
+static void match_with(const char *what, uint32_t mode, size_t at, size_t count, uint8_t byte)
+{
+    uint8_t part[LERNAZHUP_SYMBOL_MAX];
+    make_word(mode, 1, part);
+    memset(part + at, byte, count);
+    match_line(what, mode, slice(part, radio_of(mode).size));
+}
+
+/* A part that isn't a symbol long, where a byte that is no chip isn't looked at, and modes without
+ * a radio, where the part isn't. */
+static void match_refusals(uint32_t mode)
+{
+    size_t size = radio_of(mode).size;
+    uint8_t part[LERNAZHUP_SYMBOL_MAX + 1];
+    make_word(mode, 1, part);
+    part[size] = 0;
+    match_line("no chips", mode, slice(NULL, 0));
+    match_line("a chip less", mode, slice(part, size - 1));
+    match_line("a chip more", mode, slice(part, size + 1));
+    match_line("no such mode", MODES, slice(part, size));
+    match_line("no such mode", 256 + mode, slice(part, size));
+    match_line("no such mode", 65536 + mode, slice(part, size));
+    match_line("no such mode", MOST, slice(part, size));
+    part[0] = 2;
+    match_line("byte 2, a chip less", mode, slice(part, size - 1));
+    match_line("byte 2, no such mode", MODES, slice(part, size));
+    match_line("no such mode, no chips", MODES, slice(NULL, 0));
+    match_with("byte 2, first chip", mode, 0, 1, 2);
+    match_with("byte 255, last chip", mode, size - 1, 1, 255);
+    match_with("flat 0", mode, 0, size, 0);
+    match_with("flat 1", mode, 0, size, 1);
+    match_with("flat 2", mode, 0, size, 2);
+}
+
+/* A word turned chip by chip into word 0, which is as near to it as any other. Where the two are as
+ * near as one another, word 0 is answered, and the other is the next. */
+static void match_between(uint32_t mode)
+{
+    static const uint8_t higher[MODES] = {1, 9, 10};
+    uint8_t part[LERNAZHUP_SYMBOL_MAX], lower[LERNAZHUP_SYMBOL_MAX];
+    size_t size = radio_of(mode).size, at;
+    make_word(mode, higher[mode], part);
+    make_word(mode, 0, lower);
+    for (at = 0; at < size; at++) {
+        if (part[at] == lower[at])
+            continue;
+        part[at] = lower[at];
+        match_line("one chip more of word 0", mode, slice(part, size));
+    }
+}
+
+/* Where the gap is one number: in how many ways chips of a word are wrong, and how many of them at
+ * least and at most. */
+struct span {
+    uint32_t ways, least, most;
+};
+
+enum { GAPS = 16 };
+
+static void widen(struct span *span, uint32_t wrong)
+{
+    if (span->ways == 0 || wrong < span->least)
+        span->least = wrong;
+    if (wrong > span->most)
+        span->most = wrong;
+    span->ways++;
+}
+
+/* So many chips of a word are wrong; and then every choice of more of them, from a place on and up
+ * to the accepted distance. */
+static void spoil(uint32_t mode, uint8_t *word, uint32_t wrong, size_t from, struct span *spans)
+{
+    struct radio radio = radio_of(mode);
+    lernazhup_matched matched = lernazhup_match(mode, word, radio.size);
+    uint32_t gap = matched.next - matched.nearest;
+    if (gap < GAPS && matched.nearest == wrong)
+        widen(&spans[gap], wrong);
+    for (; wrong < radio.limit && from < radio.size; from++) {
+        word[from] ^= 1;
+        spoil(mode, word, wrong + 1, from + 1, spans);
+        word[from] ^= 1;
+    }
+}
+
+/* The README has this table, and tests/vectors-test compares the two. Word 0 stands for every word:
+ * to turn the chips of all words, or to invert those of odd index (in mode 0 all of them), carries
+ * word 0 to any other, and the words to the words. */
+static void wrong_chips(uint32_t mode)
+{
+    struct span spans[GAPS] = {{0, 0, 0}};
+    uint8_t word[LERNAZHUP_SYMBOL_MAX];
+    uint32_t gap;
+    make_word(mode, 0, word);
+    spoil(mode, word, 0, 0, spans);
+    for (gap = GAPS; gap-- > 0;) {
+        struct span span = spans[gap];
+        if (span.ways == 0)
+            continue;
+        printf("wrong chips: mode %" PRIu32 " gap %" PRIu32 " has ", mode, gap);
+        printf("%" PRIu32 " to %" PRIu32 ", %" PRIu32 " ways\n", span.least, span.most, span.ways);
+    }
+}
+
+/* The chips of a number that has a bit for each. */
+enum { FEW_CHIPS = 16 };
+
+static void chips_of(uint32_t bits, uint32_t size, uint8_t part[FEW_CHIPS])
+{
+    uint32_t k;
+    for (k = 0; k < size; k++)
+        part[k] = bits >> k & 1;
+}
+
+/* Every symbol that there is, in the modes whose symbols are few enough to be tried: how many are
+ * near a word, how many as near to two, and their numbers added up. */
+static void match_every(uint32_t mode)
+{
+    uint32_t size = radio_of(mode).size, bits, near = 0, tied = 0, word = 0, nearest = 0, next = 0;
+    uint8_t part[FEW_CHIPS];
+    if (size > FEW_CHIPS)
+        return;
+    for (bits = 0; bits >> size == 0; bits++) {
+        lernazhup_matched matched;
+        chips_of(bits, size, part);
+        matched = lernazhup_match(mode, part, size);
+        near += matched.number == LERNAZHUP_DONE;
+        tied += matched.nearest == matched.next;
+        word += matched.word;
+        nearest += matched.nearest;
+        next += matched.next;
+    }
+    printf("every symbol: match %" PRIu32 " gives %" PRIu32 " near, ", mode, near);
+    printf("%" PRIu32 " tied, words %" PRIu32 ", ", tied, word);
+    printf("nearest %" PRIu32 ", next %" PRIu32 "\n", nearest, next);
+}
+
+/* Each word as it is sent, with as many of its first chips wrong as may be, and with one more. */
+static void matchings_of(uint32_t mode)
+{
+    uint8_t word[LERNAZHUP_SYMBOL_MAX], value, values = mode == 0 ? 2 : 16;
+    struct radio radio = radio_of(mode);
+    size_t k;
+    for (value = 0; value < values; value++) {
+        make_word(mode, value, word);
+        match_line("as sent", mode, slice(word, radio.size));
+        for (k = 0; k < radio.limit; k++)
+            word[k] ^= 1;
+        match_line("first chips wrong, at the limit", mode, slice(word, radio.size));
+        word[k] ^= 1;
+        match_line("first chips wrong, past the limit", mode, slice(word, radio.size));
+    }
+    match_refusals(mode);
+    match_between(mode);
+    wrong_chips(mode);
+    match_every(mode);
+}
+
 /* ---- The checked profile ---- */
 
 static const uint8_t zeros[REPORT] = {0};
@@ -609,14 +786,18 @@ static void checked_writings_of_none(void)
     writing_checked("no such mode, empty, no room", MODES, slice(NULL, 0), 0);
 }
 
-/* Whether a receiver's take, and check after it, come to the same number at the same place. */
+/* Whether a receiver's take, and check after it, come to the same number at the same place, and
+ * where the report passes to the same gap. */
 static int checks(uint32_t mode, struct slice chips, lernazhup_reading reading)
 {
     uint8_t octets[REPORT];
     lernazhup_reading taken = receive(mode, chips, octets, REPORT);
     if (taken.number == LERNAZHUP_DONE)
         taken.number = lernazhup_check(octets, taken.n);
-    return taken.number == reading.number && taken.place == reading.place;
+    if (taken.number != LERNAZHUP_DONE)
+        taken.gap = 0;
+    return taken.number == reading.number && taken.place == reading.place &&
+           taken.gap == reading.gap;
 }
 
 /* Reads a report's frame after its change. The plain writer sends the report as it is here. */
@@ -778,7 +959,8 @@ static void probe(const char *what, lernazhup_receiver record, struct slice part
 {
     printf("%s: record %" PRIu32 " %" PRIu32 " %" PRIu32 " %" PRIu32, what, record.mode, record.ended, record.taken,
            record.length);
-    printf(" %" PRIu32 " %" PRIu32 " %" PRIu32, record.count, record.last, record.octet);
+    printf(" %" PRIu32 " %" PRIu32 " %" PRIu32 " %" PRIu32, record.count, record.last, record.octet,
+           record.gap);
     answer(", push", record, lernazhup_push(record, part.first, part.count));
     answer(", push of none", record, lernazhup_push(record, NULL, 0));
     answer(", finish", record, lernazhup_finish(record));
@@ -883,21 +1065,22 @@ static void stories(uint32_t mode)
 
 /* ---- Made-up records ---- */
 
-/* A new record, compared with one that is 0 but for the mode and the number. What is pushed is no
- * symbol of a radio. */
+/* A new record, compared with one that is 0 but for the mode, the number and the gap. What is
+ * pushed is no symbol of a radio. */
 static void started(uint32_t mode)
 {
     static const uint8_t byte[1] = {'0'};
     lernazhup_step step = lernazhup_start(mode);
-    lernazhup_receiver blank = {.mode = mode, .ended = step.number};
+    lernazhup_receiver blank = {.mode = mode, .ended = step.number, .gap = MOST};
     answer("start", blank, step);
     probe(", then", step.receiver, slice(byte, 1), 127);
 }
 
-/* A made-up record holds the octets that are sent. */
+/* A made-up record holds the octets that are sent, and the gap of one that has taken nothing. */
 static lernazhup_receiver made_up(uint32_t mode, uint32_t ended, uint32_t taken, uint32_t length, uint32_t count)
 {
-    lernazhup_receiver record = {.mode = mode, .ended = ended, .taken = taken, .length = length, .count = count};
+    lernazhup_receiver record = {.mode = mode, .ended = ended, .taken = taken, .length = length,
+                                 .count = count, .gap = MOST};
     memcpy(record.octets, sample, sizeof record.octets);
     return record;
 }
@@ -958,27 +1141,54 @@ static void hand(uint32_t mode, uint32_t octet, uint32_t length, struct slice pa
     fates("strange in hand", record, part);
 }
 
+/* Gaps that no frame has: no test looks at them, take gives one as it is held, and push keeps it
+ * where the symbol's isn't smaller. Cut to 8 or 16 bits, two of them would be 0. */
+static void gaps(uint32_t mode, struct slice part)
+{
+    static const uint32_t held[] = {0, 5, 256, 65536};
+    uint32_t last = symbols_in(mode, 11) - 1;
+    size_t k;
+    for (k = 0; k < sizeof held / sizeof *held; k++) {
+        lernazhup_receiver record = made_up(mode, LERNAZHUP_MORE, last, 5, 0);
+        record.gap = held[k];
+        fates("strange gap", record, part);
+        record.ended = LERNAZHUP_DONE;
+        record.taken = last + 1;
+        probe("strange gap", record, part, 127);
+    }
+}
+
+/* Whether a symbol was pushed as it was matched, to a record with no chips repaired and no gap yet:
+ * refused with the same number, or its word, its distance and its gap taken over. */
+static int pushed_as(lernazhup_matched matched, lernazhup_step step)
+{
+    if (matched.number != LERNAZHUP_DONE)
+        return step.number == matched.number;
+    return step.receiver.last == matched.word && step.receiver.count == matched.nearest &&
+           step.receiver.gap == matched.next - matched.nearest;
+}
+
 /* Every symbol that there is, pushed as the first of a report, in the modes whose symbols are few
  * enough to be tried: how many are near a word, as the header says of random ones, and how far they
  * are from it, all added up. */
 static void every_symbol(uint32_t mode)
 {
     lernazhup_receiver record = made_up(mode, LERNAZHUP_MORE, symbols_in(mode, 6), 5, 0);
-    uint32_t size = radio_of(mode).size, bits, k, read = 0, lost = 0, repaired = 0;
-    uint8_t part[16];
-    if (size > sizeof part)
+    uint32_t size = radio_of(mode).size, bits, read = 0, lost = 0, repaired = 0, otherwise = 0;
+    uint8_t part[FEW_CHIPS];
+    if (size > FEW_CHIPS)
         return;
     for (bits = 0; bits >> size == 0; bits++) {
         lernazhup_step step;
-        for (k = 0; k < size; k++)
-            part[k] = bits >> k & 1;
+        chips_of(bits, size, part);
         step = lernazhup_push(record, part, size);
         read += step.number == LERNAZHUP_MORE;
         lost += step.number == LERNAZHUP_LOST;
         repaired += step.receiver.count;
+        otherwise += !pushed_as(lernazhup_match(mode, part, size), step);
     }
     printf("every symbol: push %" PRIu32 " gives %" PRIu32 " read, %" PRIu32 " lost, ", mode, read, lost);
-    printf("%" PRIu32 " repaired\n", repaired);
+    printf("%" PRIu32 " repaired, %" PRIu32 " matched otherwise\n", repaired, otherwise);
 }
 
 /* The first symbol of a frame is what is pushed to made-up records. */
@@ -996,6 +1206,7 @@ static void records_of(uint32_t mode)
     hand(mode, 4, 0, part);
     hand(mode, 5, 0, part);
     hand(mode, 10, 5, part);
+    gaps(mode, part);
     every_symbol(mode);
 }
 
@@ -1009,6 +1220,8 @@ int main(void)
     for (mode = 0; mode < MODES; mode++)
         readings_of(mode);
     no_radio();
+    for (mode = 0; mode < MODES; mode++)
+        matchings_of(mode);
     sums();
     for (mode = 0; mode < MODES; mode++)
         checked_writings_of(mode);

@@ -50,6 +50,7 @@ put-entry t u y ds rest post at k n after l few h d e f g j =
     let stored : take (at + k + 1) (set u (at + k) after) ≡ take (at + k) u ++ after ∷ [] = rw (add-one (at + k)) (take-suc-set u (at + k) after j) in
     stored ∙ rw (before, e ∙ digits-decimal 10 k n h few) (append-assoc (take at t) (decimal n) (after ∷ []))
 
--- five entries, each behind those before it
-pub five : (x a b c d e t₁ t₂ t₃ t₄ t₅ : List ℕ) → t₁ ≡ x ++ a → t₂ ≡ t₁ ++ b → t₃ ≡ t₂ ++ c → t₄ ≡ t₃ ++ d → t₅ ≡ t₄ ++ e → t₅ ≡ x ++ (a ++ b ++ c ++ d ++ e)
-five x a b c d e t₁ t₂ t₃ t₄ t₅ p₁ p₂ p₃ p₄ p₅ = rw (p₅, p₄, p₃, p₂, p₁) (simp append-assoc)
+-- six entries, each behind those before it
+pub six : (x a b c d e f t₁ t₂ t₃ t₄ t₅ t₆ : List ℕ) → t₁ ≡ x ++ a → t₂ ≡ t₁ ++ b → t₃ ≡ t₂ ++ c → t₄ ≡ t₃ ++ d → t₅ ≡ t₄ ++ e → t₆ ≡ t₅ ++ f
+    → t₆ ≡ x ++ (a ++ b ++ c ++ d ++ e ++ f)
+six x a b c d e f t₁ t₂ t₃ t₄ t₅ t₆ p₁ p₂ p₃ p₄ p₅ p₆ = rw (p₆, p₅, p₄, p₃, p₂, p₁) (simp append-assoc)

@@ -23,9 +23,10 @@ decimal n = decimalIn 10 n
 abbrev pub entry : ℕ → ℕ → List ℕ
 entry n after = decimal n ++ after ∷ []
 
--- mode, number, place, n, count, in decimal with one blank between, and a newline
+-- mode, number, place, n, count, gap, in decimal with one blank between, and a newline
 abbrev pub line : ℕ → Reading → List ℕ
-line mode r = entry mode 32 ++ entry (r .number) 32 ++ entry (r .place) 32 ++ entry (r .n) 32 ++ entry (r .count) 10
+line mode r =
+    entry mode 32 ++ entry (r .number) 32 ++ entry (r .place) 32 ++ entry (r .n) 32 ++ entry (r .count) 32 ++ entry (r .gap) 10
 
 -- what the reader gives back with a 127-byte report buffer
 abbrev pub lineOf : ℕ → List ℕ → List ℕ

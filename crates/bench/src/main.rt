@@ -1,10 +1,10 @@
 // The bench program: reads a raw capture from standard input, at most its first 15,960 bytes, tries
 // modes 0, 1 and 2 in that order, each with a report buffer of 127 bytes, and prints a line for
-// each: mode, number, place, n, count. The text of all lines is made whole and written once:
+// each: mode, number, place, n, count, gap. The text of all lines is made whole and written once:
 // `lines` promises every byte of it (specs/Lines.antt), and `main` only reads and writes. The
 // proofs go through because `io::decimal` promises a number's digits, `bytes::copy` a copy and the
 // reader its reading, because a number of 32 bits has at most ten digits (`few-digits`), so that
-// 165 bytes are room enough, and because each entry stands behind those before it
+// 198 bytes are room enough, and because each entry stands behind those before it
 // (proofs/Text.antt).
 ghost use mathlib.Core.Path.{_≡_};
 ghost use mathlib.Core.List.{_++_};
@@ -34,7 +34,7 @@ fn main() {
         os::fail(b"standard input");
         return;
     }
-    let mut text = [0u8; 165];
+    let mut text = [0u8; 198];
     let length = lines(&chips[..count], &mut text);
     if !io::write_all(STDOUT_FILENO, &text[..length]) {
         os::fail(b"standard output");
@@ -59,7 +59,7 @@ fn ended() -> bool {
 // The lines of a capture, a mode each, at the front of the lent text. Gives back how many bytes
 // they have.
 fn lines(chips: &[u8], text: &mut [u8]) -> usize
-    requires { ⌜ 165 ≤ length (now text) ⌝ }
+    requires { ⌜ 198 ≤ length (now text) ⌝ }
     ensures { λ r. ⌜ Counts r (now (text .exit)) ⌝ }
     ensures { λ r. ⌜ take r (now (text .exit)) ≡ linesOf (now (chips .entry)) ⌝ }
 {
@@ -70,8 +70,8 @@ fn lines(chips: &[u8], text: &mut [u8]) -> usize
 
 // The line of one mode, behind the first `at` bytes of the text. Gives back where it ends.
 fn line(mode: u32, chips: &[u8], text: &mut [u8], at: usize) -> usize
-    requires { ⌜ at + 55 ≤ length (now text) ⌝ }
-    ensures { λ r. ⌜ r ≤ at + 55 ⌝ }
+    requires { ⌜ at + 66 ≤ length (now text) ⌝ }
+    ensures { λ r. ⌜ r ≤ at + 66 ⌝ }
     ensures { λ r. ⌜ take r (now (text .exit)) ≡ take at (now (text .entry)) ++ lineOf mode (now (chips .entry)) ⌝ }
 {
     let mut report = [0u8; 127];
@@ -80,7 +80,8 @@ fn line(mode: u32, chips: &[u8], text: &mut [u8], at: usize) -> usize
     let two = put(text, one, reading.number, b' ');
     let three = put(text, two, reading.place, b' ');
     let four = put(text, three, reading.n, b' ');
-    put(text, four, reading.count, b'\n')
+    let five = put(text, four, reading.count, b' ');
+    put(text, five, reading.gap, b'\n')
 }
 
 // A number in decimal and the byte after it, behind the first `at` bytes of the text. Gives back

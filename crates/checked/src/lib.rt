@@ -29,7 +29,7 @@ pub fn write(mode: u32, report: &[u8], chips: &mut [u8]) -> frame::Written
         return frame::refusal(codes::ALLZERO);
     }
     let octets = with_fcs(report);
-    frame::write(mode, &octets[..n + 2], chips)
+    writer::write(mode, &octets[..n + 2], chips)
 }
 
 // Reads as the plain reader does, into octets aside with the room that the report buffer has, and

@@ -11,6 +11,7 @@ use borrow.Author.Tests.{eqb-true, eqb-false, ltb-true, ne-eqb, not-true}
 use Rattle.codes.specs.Chips.{pick, among, distance, bad}
 use Rattle.codes.specs.Radio.{Radio, word, Sound, Unflat, radioOf, bpsk, oqpsk, lowband}
 use Rattle.codes.specs.Radio.{bpskWords, oqpskWord, oqpskWords, lowbandWord, lowbandWords, turned, turns, oddInverted, turnedWords}
+use Rattle.codes.specs.Symbol.{least, nearestBut, Spaced}
 use Rattle.codes.proofs.Tests.{by-test, not-both, every, each}
 use Rattle.codes.proofs.Modes.{each-row}
 
@@ -97,6 +98,22 @@ unflat-by r t c v l h = go c l (ltb (r .limit) (distance (replicate (r .size) 0)
     go zero l true e x = ltb-true _ _ e
     go (suc zero) l true e x = ltb-true _ _ x
     go (suc (suc c)) l true e x = absurd (omega arith)
+
+-- from every word the nearest other word is 15 away in mode 0, 12 in mode 1, 6 in mode 2
+spaced-by : (r : Radio) (d : ℕ) → everyWord r (λ v. eqb (nearestBut r (word r v) v) d) ≡ true → Spaced r d
+spaced-by r d t v h = eqb-true _ _ (each-word r (λ v. eqb (nearestBut r (word r v) v) d) t v h)
+
+pub spaced-bpsk : Spaced bpsk 15
+unfolding everyWord every least nearestBut distance bpskWords
+spaced-bpsk = spaced-by bpsk 15 refl
+
+pub spaced-oqpsk : Spaced oqpsk 12
+unfolding everyWord every least nearestBut distance oqpskWords turnedWords turns turned oddInverted oqpskWord
+spaced-oqpsk = spaced-by oqpsk 12 refl
+
+pub spaced-lowband : Spaced lowband 6
+unfolding everyWord every least nearestBut distance lowbandWords turnedWords turns turned oddInverted lowbandWord
+spaced-lowband = spaced-by lowband 6 refl
 
 -- the tests that make a radio sound
 sizedTest : Radio → Bool

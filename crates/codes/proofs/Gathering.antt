@@ -35,6 +35,17 @@ listed-at f zero i h = absurd (omega arith)
 listed-at f (suc n) zero h = refl
 listed-at f (suc n) (suc i) h = listed-at (λ i. f (suc i)) n i (omega arith)
 
+-- chips among bits
+module _ (l : Layout) (bits : ℕ) where
+  pub chip-in : (i : ℕ) → chipIn l bits i ≤ 1
+  unfolding chipIn
+  chip-in i = omega arith
+
+  pub chips-in : (n : ℕ) → bad (listed (chipIn l bits) n) ≡ false
+  chips-in n =
+      chips-good (listed (chipIn l bits) n)
+      (λ i h. rw (listed-at (chipIn l bits) n i (omega (arith, listed-long (chipIn l bits) n))) (chip-in i))
+
 -- where the eights of a layout begin and how far they are lifted, in numbers that fit
 pub steps-le : (k s : ℕ) → k < 4 → s ≤ 8 → k * s ≤ 24
 steps-le zero s h l = omega (arith, zero-mul s)

@@ -51,15 +51,21 @@ pub const FORGED: u32 = 34;
 // What `gather` gives back in place of bits: all of them set, which no chips give.
 pub const NOEIGHT: u64 = 0xFFFFFFFFFFFFFFFF;
 
+// The smallest gap before the first symbol: above every gap.
+pub const NOGAP: u32 = 0xFFFFFFFF;
+
 // A symbol has at most so many eights.
 pub const EIGHTS: usize = 4;
 
-// What one symbol's chips say: `number` 0 with the word's value and its distance, or a refusal
-// with zeros.
+// What one symbol's chips say, in the order of the C interface: 0 with the word's value, how far it
+// is and how far the next-nearest other word is; 6 with the same three of the nearest word; or
+// another refusal with zeros.
+#[repr(C)]
 pub struct Symbol {
     pub number: u32,
     pub value: u32,
     pub distance: u32,
+    pub next: u32,
 }
 
 // A radio's numbers, by value: what everything below `phy_of` goes by.

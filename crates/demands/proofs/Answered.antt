@@ -15,7 +15,7 @@ use Rattle.frame.specs.Frame.{perOctet, octetsWith, raws, symbols, symbolsWith}
 use Rattle.frame.proofs.Chain.{encode-long}
 use Rattle.frame.proofs.Count.{raws-below, symbols-long, symbols-same}
 use Rattle.order.specs.Received.{decode, received, octetAt}
-use Rattle.order.specs.Order.{refused, done, values, readingFrom}
+use Rattle.order.specs.Order.{refused, done, values, smallestGap, readingFrom}
 use Rattle.demands.specs.Words.{Report, bitIn}
 use Rattle.demands.proofs.Back.{decode-take, decode-encode}
 use Rattle.order.proofs.Raw.{per-positive}
@@ -78,16 +78,18 @@ module _ (r : Radio) (S : Sound r) (ws : List (List ℕ)) (bit : ℕ) (low : bit
     all-in : rawsTo r ws (suc k) ≡ all
     all-in = raws-are k (omega arith) ∙ take-all (suc k) all (omega (arith, long))
 
-    ends : ending r ws k ≡ done (length vs) report count
+    ends : ending r ws k ≡ done (length vs) report count (smallestGap (take (length vs) (seen r ws)))
     ends = rw (all-in, e, report-in r S bit low report P, ← T .total)
 
-    answered-at : readingFrom r room [] ws ≡ done (length vs) report count
+    answered-at : readingFrom r room [] ws ≡ done (length vs) report count (smallestGap (take (length vs) (seen r ws)))
     answered-at = run-reading r room ws k run ∙ ends
 
   -- the reading answers the report
-  pub windows-answer : (room : ℕ) → length report ≤ room → readingFrom r room [] ws ≡ done (length (symbols r report)) report count
+  pub windows-answer : (room : ℕ) → length report ≤ room
+      → readingFrom r room [] ws ≡ done (length (symbols r report)) report count (smallestGap (take (length (symbols r report)) (seen r ws)))
   windows-answer room fits =
-      answered-at room fits (length vs - 1) (omega (arith, headed, per-positive r S)) ∙ ap (λ (n : ℕ). done n report count) (symbols-same r bit report)
+      answered-at room fits (length vs - 1) (omega (arith, headed, per-positive r S))
+      ∙ ap (λ (n : ℕ). done n report count (smallestGap (take n (seen r ws)))) (symbols-same r bit report)
 
   -- and refuses it at the last symbol of the length octet where there is too little
   pub windows-short : (room : ℕ) → room < length report → readingFrom r room [] ws ≡ refused NOROOM (6 * perOctet r - 1)

@@ -1,6 +1,6 @@
 -- Chips whose windows begin with the symbols of one of a report's frames are those that begin with
 -- that frame, but for the limit in each symbol. For any sound radio. Assumes nothing.
-use mathlib.Core.Path.{_≡_, refl, sym, ap, _∙_}
+use mathlib.Core.Path.{_≡_, refl, sym, ap, _∙_, subst}
 use mathlib.Core.List.{List, [], _∷_}
 use Prim.Native.Nat.{ℕ, zero, suc, _+_, _*_, _≤_, _<_}
 use native.Mathlib.Nat.{le-div-iff-mul-le}
@@ -9,19 +9,20 @@ use lib.ListN.{length, getD, take}
 use lib.Seq.{take-suc}
 use Rattle.codes.specs.Chips.{distance}
 use Rattle.codes.specs.Radio.{Radio, Sound, word}
-use Rattle.codes.specs.Symbol.{reads, symbolOf}
+use Rattle.codes.specs.Symbol.{symbolOf}
 use Rattle.codes.specs.declared.Symbol.{Symbol}
-use Rattle.codes.proofs.Unique.{Reads, of-symbol, symbol-of}
-use Rattle.frame.specs.Frame.{symbolsWith, frameWith}
-use Rattle.order.specs.Order.{window, whole, repaired}
-use Rattle.demands.specs.Words.{Near, differences}
+use Rattle.codes.proofs.Unique.{Reads, readAs, some-words, of-symbol, symbol-of}
+use Rattle.frame.specs.Frame.{symbols, symbolsWith, frameWith}
+use Rattle.order.specs.Order.{window, whole, repaired, smallestGap}
+use Rattle.demands.specs.Words.{frameGap, Near, differences}
 use Rattle.order.proofs.Windows.{whole-long, whole-at, seen, seen-long}
 use Rattle.order.proofs.Raw.{size-pos}
 use Rattle.order.proofs.Carried.{repaired-append}
 use Rattle.demands.proofs.Stands.{Stands, seen-at}
 use Rattle.demands.proofs.Fronts.{window-long, front-chips, window-chips}
-use Rattle.demands.proofs.Frames.{symbol-known, window-in, window-of, frame-window, sum-of-windows}
-use Rattle.frame.proofs.Count.{frame-size}
+use Rattle.demands.proofs.Frames.{some-symbols, symbol-known, window-in, window-of, frame-window, sum-of-windows}
+use Rattle.demands.proofs.Gaps.{gap-seen}
+use Rattle.frame.proofs.Count.{frame-size, symbols-same}
 
 module _ (r : Radio) (chips : List ℕ) where
   abbrev ws : List (List ℕ)
@@ -58,11 +59,13 @@ module _ (r : Radio) (S : Sound r) (chips : List ℕ) (bit : ℕ) (report : List
   fits-whole h = omega (arith, le-div-iff-mul-le {x = length vs} (size-pos r S) .1 h, whole-long r chips)
 
   module _ (T : Stands r (whole r chips) vs count) where
-    at-window : (j : ℕ) → j < length vs → symbolOf r (window r chips j) ≡ reads (getD vs j 0) (distance (window r chips j) (word r (getD vs j 0)))
+    at-window : (j : ℕ) → j < length vs → symbolOf r (window r chips j) ≡ readAs r (window r chips j) (getD vs j 0)
     at-window j h = rw (← whole-at r chips j (omega (arith, T .enough))) (T .stands j h)
 
     read-at : (j : ℕ) → j < length vs → Reads r (window r chips j) (getD vs j 0) (distance (window r chips j) (word r (getD vs j 0)))
-    read-at j h = of-symbol r (window r chips j) _ _ (at-window j h)
+    read-at j h =
+        subst (λ (x : Symbol). Reads r (window r chips j) (x .value) (x .distance)) (at-window j h)
+        (of-symbol r (window r chips j) (some-words r S) (ap (λ (x : Symbol). x .number) (at-window j h)))
 
     -- they begin with the frame
     pub stands-near : Near r chips f count
@@ -77,11 +80,18 @@ module _ (r : Radio) (S : Sound r) (chips : List ℕ) (bit : ℕ) (report : List
               ∙ sym (sum-of-windows r S bit report chips (omega (arith, frame-size r S bit report, whole-fits (T .enough))));
         }
 
+    -- and the reading order's smallest gap is that of the windows
+    pub stands-gap : smallestGap (take (length (symbols r report)) (seen r (whole r chips))) ≡ frameGap r chips report
+    stands-gap =
+        let e = symbols-same r bit report in
+        gap-seen r chips (length (symbols r report)) (some-symbols r S report) (rw (← e) (T .enough))
+        (λ j h. ap (λ (x : Symbol). x .number) (at-window j (rw e h)))
+
   module _ (N : Near r chips f count) where
     fits : length vs * r .size ≤ length chips
     fits = omega (arith, frame-size r S bit report, N .long)
 
-    near-read : (j : ℕ) → j < length vs → symbolOf r (window r chips j) ≡ reads (getD vs j 0) (distance (window r chips j) (word r (getD vs j 0)))
+    near-read : (j : ℕ) → j < length vs → symbolOf r (window r chips j) ≡ readAs r (window r chips j) (getD vs j 0)
     near-read j h =
         symbol-of r (window r chips j) S (window-long r chips (length vs) j fits h) (getD vs j 0) (distance (window r chips j) (word r (getD vs j 0)))
         (record {

@@ -1,5 +1,5 @@
--- Demand 1. What a refusal leaves: the reader's n and count are 0, the writer's chip count is 0,
--- and the lent buffer is unchanged. The numbers that each gives back are those of the document's
+-- Demand 1. What a refusal leaves: the reader's n, count and gap are 0, the writer's chip count is
+-- 0, and the lent buffer is unchanged. The numbers that each gives back are those of the document's
 -- table, and a mode that has no radio gives number 1 at place 0. Assumes nothing.
 use mathlib.Core.Path.{_≡_, refl}
 use mathlib.Core.Bool.{true, false}
@@ -23,15 +23,17 @@ use Rattle.demands.proofs.Placed.{Standing, elsewhere, answer-placed}
 
 -- ---- the reader
 
--- an answer that isn't done: n and count 0, report buffer unchanged
-pub leaves : (a : Answer) (buffer : List ℕ) → (told a .number ≡ DONE → ⊥) → (told a .n ≡ 0) × (told a .count ≡ 0) × (left a buffer ≡ buffer)
+-- an answer that isn't done: n, count and gap 0, report buffer unchanged
+pub leaves : (a : Answer) (buffer : List ℕ) → (told a .number ≡ DONE → ⊥)
+    → (told a .n ≡ 0) × (told a .count ≡ 0) × (told a .gap ≡ 0) × (left a buffer ≡ buffer)
 unfolding told left
-leaves (refused x place) buffer n = (refl, refl, refl)
-leaves (done place report count) buffer n = absurd (n refl)
+leaves (refused x place) buffer n = (refl, refl, refl, refl)
+leaves (done place report count gap) buffer n = absurd (n refl)
 
--- A refused reading: n and count 0, report buffer unchanged.
+-- A refused reading: n, count and gap 0, report buffer unchanged.
 pub read-refused : (mode : ℕ) (chips buffer : List ℕ) → (readOf mode chips buffer .answer .number ≡ DONE → ⊥)
-    → (readOf mode chips buffer .answer .n ≡ 0) × (readOf mode chips buffer .answer .count ≡ 0) × (readOf mode chips buffer .buffer ≡ buffer)
+    → (readOf mode chips buffer .answer .n ≡ 0) × (readOf mode chips buffer .answer .count ≡ 0) × (readOf mode chips buffer .answer .gap ≡ 0)
+    × (readOf mode chips buffer .buffer ≡ buffer)
 read-refused mode chips buffer = leaves (answerAt mode (length buffer) chips) buffer
 
 -- one number more to be among
@@ -49,7 +51,7 @@ read-numbers mode chips buffer = by-pick P (known mode) _ _ (λ _. go (reading (
 
     go : (a : Answer) → Fair a → P a
     go (refused x place) f = among-more x DONE (BADMODE ∷ refusals) (among-more x BADMODE refusals f)
-    go (done place report count) f = refl
+    go (done place report count gap) f = refl
 
 -- And each stands where the reading order lets it: 7 in the preamble, 8 on the last symbol of the
 -- start octet, 3 on that of the length octet.
@@ -64,11 +66,11 @@ read-places mode chips buffer =
 
     go : (a : Answer) → Standing (perOctet (radioOf mode)) a → P a
     go (refused x place) f = f
-    go (done place report count) f = elsewhere _ _ _ refl
+    go (done place report count gap) f = elsewhere _ _ _ refl
 
 -- A mode that has no radio: its number at place 0, before any symbol.
 pub read-bad-mode : (mode : ℕ) (chips buffer : List ℕ) → known mode ≡ false
-    → readOf mode chips buffer ≡ outcome (record { number = BADMODE; place = 0; n = 0; count = 0 }) buffer
+    → readOf mode chips buffer ≡ outcome (record { number = BADMODE; place = 0; n = 0; count = 0; gap = 0 }) buffer
 unfolding answerAt told left
 read-bad-mode mode chips buffer k = rw k
 

@@ -1,6 +1,6 @@
 -- Demand 2. With room, each frame of a report of at most 127 octets, followed by anything, reads
 -- back as that report with count 0, for every sound radio. And in a mode that has a radio: what the
--- writer wrote, the reader reads. And a report's two frames are two. Assumes nothing.
+-- writer wrote, the reader reads, with the least distance of two words as its gap. And a report's two frames are two. Assumes nothing.
 use mathlib.Core.Path.{_≡_, refl, sym, ap, _∙_, subst}
 use mathlib.Core.Logic.{inl}
 use mathlib.Core.Bool.{true, false}
@@ -17,10 +17,11 @@ use Rattle.frame.specs.Frame.{frame, frameWith}
 use Rattle.frame.specs.Write.{written}
 use Rattle.order.specs.Order.{window, whole}
 use Rattle.reader.specs.Read.{readOf}
-use Rattle.demands.specs.Words.{Report, frames, OneOf, bitIn, Answers, Near, NearOne, success}
+use Rattle.demands.specs.Words.{Report, frames, OneOf, bitIn, apartIn, Answers, Near, NearOne, success}
 use Rattle.demands.proofs.Demand3.{demand-3}
 use Rattle.demands.proofs.Repair.{distance-self}
-use Rattle.demands.proofs.Frames.{frame-good, near-same, one-of, member-good}
+use Rattle.demands.proofs.Frames.{frame-good, near-same, one-of, bit-of, member-good}
+use Rattle.demands.proofs.HowClose.{written-gap, spaced}
 use Rattle.demands.proofs.Close.{near-stands}
 use Rattle.demands.proofs.Answered.{bit-read}
 use Rattle.demands.proofs.Reader.{reads-report}
@@ -58,9 +59,11 @@ either-bit r S room bit l report more p h = demand-2 r S room report (frameWith 
 
 -- And so of the reader.
 pub reads-frames : (mode : ℕ) → known mode ≡ true → (report sent more buffer : List ℕ) → Report report → OneOf (frames (radioOf mode) report) sent
-    → length report ≤ length buffer → readOf mode (sent ++ more) buffer ≡ success mode buffer report 0
+    → length report ≤ length buffer → readOf mode (sent ++ more) buffer ≡ success mode buffer report 0 (apartIn mode)
 reads-frames mode k report sent more buffer p m l =
     reads-report mode k (sent ++ more) buffer report 0 l .1 (p, near-frame (radioOf mode) (sound mode) report sent more m)
+    ∙ ap (success mode buffer report 0)
+    (written-gap (radioOf mode) (sound mode) report sent (bit-of (radioOf mode) report sent m) (apartIn mode) (spaced mode) more)
 
 -- The frames of a report are not the same one: chips that are the one have another bit than the
 -- other's.
@@ -82,7 +85,7 @@ written-frame mode k report chips l h =
 -- With room for both, what the writer wrote the reader reads.
 pub read-back : (mode : ℕ) → known mode ≡ true → (report chips buffer : List ℕ) → Report report → length (frame (radioOf mode) report) ≤ length chips
     → length report ≤ length buffer
-    → readOf mode (written mode report chips .buffer) buffer ≡ success mode buffer report 0
+    → readOf mode (written mode report chips .buffer) buffer ≡ success mode buffer report 0 (apartIn mode)
 read-back mode k report chips buffer p h l =
     let f = frame (radioOf mode) report in
     ap (λ (xs : List ℕ). readOf mode xs buffer) (written-frame mode k report chips (p .short) h)

@@ -13,12 +13,12 @@ use Rattle.codes.specs.Numbers.{DONE, MORE}
 use Rattle.codes.specs.Radio.{Radio, Sound}
 use Rattle.codes.specs.Symbol.{symbolOf}
 use Rattle.codes.proofs.Tests.{upto}
-use Rattle.codes.proofs.Unique.{Reads, of-symbol}
+use Rattle.codes.proofs.Unique.{Reads, some-words, of-symbol, read-as}
 use Rattle.frame.specs.Frame.{octetsWith, perOctet, raws, encode, symbols, symbolsWith}
 use Rattle.frame.proofs.Count.{symbols-same}
 use Rattle.frame.proofs.Below.{Below, at-below}
 use Rattle.order.specs.Received.{decode, octetAt}
-use Rattle.order.specs.Order.{done, values, repaired, lengthIn, verdict, reportIn, readingFrom}
+use Rattle.order.specs.Order.{done, values, repaired, smallestGap, lengthIn, verdict, reportIn, readingFrom}
 use Rattle.demands.specs.Words.{Report, bitIn}
 use Rattle.demands.proofs.Back.{decode-take, encode-decode}
 use Rattle.order.proofs.Raw.{decode-long, decode-below}
@@ -29,12 +29,13 @@ use Rattle.demands.proofs.Found.{found-room, found-bit, found-report, f
 use Rattle.demands.proofs.Stands.{Stands, values-long, values-at, values-take, octet-front}
 
 -- what a reading of windows that is done says
-pub record Heard (r : Radio) (room : ℕ) (ws : List (List ℕ)) (place : ℕ) (report : List ℕ) (count : ℕ) : Type 0 where
+pub record Heard (r : Radio) (room : ℕ) (ws : List (List ℕ)) (place : ℕ) (report : List ℕ) (count gap : ℕ) : Type 0 where
   pub proper : Report report
   pub fits : length report ≤ room
   pub at : place ≡ length (symbols r report)
   pub low : bitIn r ws ≤ 1
   pub row : Stands r ws (symbolsWith r (bitIn r ws) report) count
+  pub closest : gap ≡ smallestGap (take place (seen r ws))
 
 module _ (r : Radio) (S : Sound r) (room : ℕ) (ws : List (List ℕ)) where
   module _ (k : ℕ) (R : Run r room ws 0 k) where
@@ -52,8 +53,7 @@ module _ (r : Radio) (S : Sound r) (room : ℕ) (ws : List (List ℕ)) where
         let w = getD ws j [] in
         let z = R .good j (omega arith) (omega arith) in
         rw (values-at r ws (suc k) j (R .inside) h)
-        (of-symbol r w (symbolOf r w .value) (symbolOf r w .distance)
-        (λ i. record { number = z i; value = symbolOf r w .value; distance = symbolOf r w .distance }))
+        (of-symbol r w (some-words r S) z)
 
     vs-below : Below (2 ^ r .bits) vs
     vs-below = at-below (2 ^ r .bits) vs (λ j h. rw (← S .many) (read-at j (omega (arith, long)) .known))
@@ -92,14 +92,11 @@ module _ (r : Radio) (S : Sound r) (room : ℕ) (ws : List (List ℕ)) where
           enough = omega (arith, long, R .inside);
           stands = λ j h.
               let l : j < suc k = omega (arith, long) in
-              let n = R .good j (omega arith) (omega arith) in
-              let v = sym (values-at r ws (suc k) j (R .inside) l) in
-              let d = read-at j l .apart in
-              λ i. record { number = n i; value = v i; distance = d i };
+              rw (values-at r ws (suc k) j (R .inside) l) (read-as r (getD ws j []) (some-words r S) (R .good j (omega arith) (omega arith)));
           total = ap (λ (n : ℕ). repaired (take n (seen r ws))) (sym long);
         }
 
-    heard : Heard r room ws (suc k) (reportIn r bs) (repaired (take (suc k) (seen r ws)))
+    heard : Heard r room ws (suc k) (reportIn r bs) (repaired (take (suc k) (seen r ws))) (smallestGap (take (suc k) (seen r ws)))
     heard =
         record {
           proper = found-report r S room bs (decode-below r S 0 vs vs-below) clear whole-long;
@@ -107,13 +104,15 @@ module _ (r : Radio) (S : Sound r) (room : ℕ) (ws : List (List ℕ)) where
           at = sym (sym (symbols-same r (bitIn r ws) (reportIn r bs)) ∙ ap length same ∙ long);
           low = rw bit-is (found-bit r S room bs (decode-below r S 0 vs vs-below) clear whole-long);
           row = rw same row-of;
+          closest = refl;
         }
 
   -- a reading of windows that is done says so
-  pub reading-heard : (place count : ℕ) (report : List ℕ) → readingFrom r room [] ws ≡ done place report count → Heard r room ws place report count
-  reading-heard place count report e = go (reading-run r room ws (length ws) 0 place count report (zero-add (length ws)) e)
+  pub reading-heard : (place count gap : ℕ) (report : List ℕ) → readingFrom r room [] ws ≡ done place report count gap
+      → Heard r room ws place report count gap
+  reading-heard place count gap report e = go (reading-run r room ws (length ws) 0 place count gap report (zero-add (length ws)) e)
     where
-      go : (k : ℕ) × Run r room ws 0 k × (ending r ws k ≡ done place report count) → Heard r room ws place report count
+      go : (k : ℕ) × Run r room ws 0 k × (ending r ws k ≡ done place report count gap) → Heard r room ws place report count gap
       go (k, R, o) =
-          let s = same-parts (suc k) place (repaired (take (suc k) (seen r ws))) count (reportIn r (rawsTo r ws (suc k))) report o in
-          rw (← s .0, ← s .1, ← s .2) (heard k R)
+          let s = same-parts (suc k) place _ count _ gap (reportIn r (rawsTo r ws (suc k))) report o in
+          rw (← s .0, ← s .1, ← s .2, ← s .3) (heard k R)

@@ -6,7 +6,7 @@ use mathlib.Core.Bool.{true, false}
 use mathlib.Core.Logic.{inl, inr}
 use mathlib.Core.List.{List, [], _∷_, map}
 use Prim.Native.Nat.{ℕ, zero, suc, _*_, _^_, _≤_, _<_}
-use native.Mathlib.Nat.{mul-le-mul-right, le-of-mul-le-mul-right}
+use native.Mathlib.Nat.{mul-le-mul-right, le-of-mul-le-mul-right, le-add-right}
 use native.Mathlib.Omega.{arith}
 use lib.ListN.{length, getD, take}
 use lib.Seq.{take-all}
@@ -16,13 +16,13 @@ use Rattle.codes.specs.Chips.{distance, bad, among}
 use Rattle.codes.specs.Radio.{Radio, Sound, word}
 use Rattle.codes.proofs.Tests.{by-test, not-both}
 use Rattle.codes.proofs.Chips.{bad-append}
-use Rattle.frame.specs.Frame.{symbolsWith, chipsOf, frameWith}
-use Rattle.frame.proofs.Count.{symbols-below, frame-size, frame-long}
+use Rattle.frame.specs.Frame.{perOctet, symbols, symbolsWith, chipsOf, frameWith}
+use Rattle.frame.proofs.Count.{symbols-below, symbols-long, symbols-same, frame-size, frame-long}
 use Rattle.frame.proofs.Below.{Below, below-at}
 use Rattle.order.specs.Order.{window}
 use Rattle.demands.specs.Words.{reservedBits, frames, OneOf, Near, differences}
 use Rattle.demands.proofs.Among.{among-pass}
-use Rattle.order.proofs.Raw.{size-pos}
+use Rattle.order.proofs.Raw.{size-pos, per-positive}
 use Rattle.demands.proofs.Fronts.{window-same, front-distance, word-window}
 
 module _ (r : Radio) (S : Sound r) where
@@ -30,6 +30,10 @@ module _ (r : Radio) (S : Sound r) where
   unfolding chipsOf bad
   chips-good [] p = refl
   chips-good (v ∷ vs) p = rw (bad-append, S .chips v (rw (S .many) (p .0))) (chips-good vs (p .1))
+
+  -- a frame has symbols
+  pub some-symbols : (report : List ℕ) → 0 < length (symbols r report)
+  some-symbols report = omega (arith, symbols-long r 0 report, per-positive r S, mul-le-mul-right (perOctet r) (le-add-right 6 (length report)))
 
   module _ (bit : ℕ) (report : List ℕ) where
     abbrev vs : List ℕ
@@ -119,6 +123,13 @@ module _ (r : Radio) (S : Sound r) (report frame : List ℕ) (m : OneOf (frames 
     where
       go : Bit r report frame → bad frame ≡ false
       go (bit, h, e) = rw e (frame-good r S bit report)
+
+  -- its symbols' windows end in it
+  pub member-window : (j : ℕ) → j < length (symbols r report) → suc j * r .size ≤ length frame
+  member-window = go (bit-of r report frame m)
+    where
+      go : Bit r report frame → (j : ℕ) → j < length (symbols r report) → suc j * r .size ≤ length frame
+      go (bit, h, e) j l = rw e (window-in r S bit report j (rw (symbols-same r bit report) l))
 
   pub member-long : length frame ≡ length (frameWith r 0 report)
   member-long = go (bit-of r report frame m)

@@ -9,11 +9,12 @@ use lib.ListN.{length, take}
 use lib.Dec.{eqb, ltb}
 use borrow.Author.Tests.{eqb-true, eqb-false, not-false}
 use Rattle.codes.specs.Numbers.{DONE, BADMODE, NOROOM, RUNOUT, NOCHIP, LOST, PREAMBLE, BADSTART, ENDED, BADPART, NOTENDED, MORE, FORGED}
-use Rattle.codes.specs.Chips.{among, bad}
+use Rattle.codes.specs.Chips.{among}
 use Rattle.codes.specs.Radio.{Radio, known, radioOf}
-use Rattle.codes.specs.Symbol.{valued, symbolOf}
+use Rattle.codes.specs.Symbol.{symbolOf}
 use Rattle.codes.specs.declared.Symbol.{Symbol}
 use Rattle.codes.proofs.Tests.{by-pick, not-both}
+use Rattle.codes.proofs.Unique.{symbol-numbers}
 use Rattle.frame.specs.Frame.{startOctet, perOctet}
 use Rattle.order.specs.declared.Hand.{Hand}
 use Rattle.order.specs.Order.{Answer, refused, done, both, ends, rules}
@@ -33,12 +34,7 @@ abbrev pub ofSymbol : List ℕ
 ofSymbol = DONE ∷ NOCHIP ∷ LOST ∷ PREAMBLE ∷ BADSTART ∷ MORE ∷ []
 
 symbol-given : (r : Radio) (w : List ℕ) → among (symbolOf r w .number) ofSymbol ≡ true
-unfolding symbolOf valued
-symbol-given r w =
-    by-pick P (bad w) _ _ (λ _. refl) (λ _. by-pick P (ltb _ (length (r .words))) _ _ (λ _. refl) (λ _. refl))
-  where
-    P : Symbol → Type 0
-    P z = among (z .number) ofSymbol ≡ true
+symbol-given r w = symbol-numbers r w (λ x. among x ofSymbol ≡ true) refl refl refl
 
 -- with room for every report 3 is none of them
 rules-given : (per s raw start n : ℕ) → (ends per 5 s ≡ true → n ≤ 127) → among (rules per 127 s raw start n) ofSymbol ≡ true
@@ -52,27 +48,27 @@ rules-given per s raw start n q =
     P : ℕ → Type 0
     P z = among z ofSymbol ≡ true
 
--- the ways of a value taken: moved or stopped by the rules
-module _ (r : Radio) (h : Hand) (v d : ℕ) where
+-- the ways of a symbol taken: moved or stopped by the rules
+module _ (r : Radio) (h : Hand) (x : Symbol) where
   abbrev octet : ℕ
-  octet = shifted r (h .octet) (rawFrom r (h .last) v)
+  octet = shifted r (h .octet) (rawFrom r (h .last) (x .value))
 
   abbrev n : ℕ
   n = lengthAfter (perOctet r) (h .taken) (h .length) octet
 
   abbrev found : ℕ
-  found = rules (perOctet r) 127 (h .taken) (rawFrom r (h .last) v) octet n
+  found = rules (perOctet r) 127 (h .taken) (rawFrom r (h .last) (x .value)) octet n
 
-  advanced-ways : (P : Hand → Type 0) → ((found ≡ MORE) ⊎ (found ≡ DONE) → P (moved h found n d v octet)) → P (stopped found h) → P (advanced r h v d)
+  advanced-ways : (P : Hand → Type 0) → ((found ≡ MORE) ⊎ (found ≡ DONE) → P (moved h found n x octet)) → P (stopped found h) → P (advanced r h x)
   unfolding advanced
   advanced-ways P a b =
-      by-pick P (eqb found MORE) (moved h found n d v octet) _ (λ t. a (inl (eqb-true found MORE t)))
-      (λ _. by-pick P (eqb found DONE) (moved h found n d v octet) (stopped found h) (λ t. a (inr (eqb-true found DONE t))) (λ _. b))
+      by-pick P (eqb found MORE) (moved h found n x octet) _ (λ t. a (inl (eqb-true found MORE t)))
+      (λ _. by-pick P (eqb found DONE) (moved h found n x octet) (stopped found h) (λ t. a (inr (eqb-true found DONE t))) (λ _. b))
 
-  advanced-given : among (advanced r h v d .number) ofSymbol ≡ true
+  advanced-given : among (advanced r h x .number) ofSymbol ≡ true
   advanced-given =
       let given =
-      rules-given (perOctet r) (h .taken) (rawFrom r (h .last) v) octet n (length-few (perOctet r) (h .taken) (h .length) octet) in
+      rules-given (perOctet r) (h .taken) (rawFrom r (h .last) (x .value)) octet n (length-few (perOctet r) (h .taken) (h .length) octet) in
       advanced-ways (λ g. among (g .number) ofSymbol ≡ true) (λ _. given) given
 
 followed-given : (mode : ℕ) → known mode ≡ true → (h : Hand) (w : List ℕ) → among (followed mode h (symbolOf (radioOf mode) w) .number) ofSymbol ≡ true
@@ -81,8 +77,8 @@ followed-given mode k h w =
     let x = symbolOf (radioOf mode) w in
     rw k
     (by-pick (λ (g : Hand). among (g .number) ofSymbol ≡ true) (eqb (x .number) DONE)
-    (advanced (radioOf mode) h (x .value) (x .distance)) (stopped (x .number) h)
-    (λ _. advanced-given (radioOf mode) h (x .value) (x .distance)) (λ _. symbol-given (radioOf mode) w))
+    (advanced (radioOf mode) h x) (stopped (x .number) h)
+    (λ _. advanced-given (radioOf mode) h x) (λ _. symbol-given (radioOf mode) w))
 
 -- ---- each call
 
@@ -138,7 +134,7 @@ finish-numbers c = finish-ways c (λ (s : Step). among (s .number) (RUNOUT ∷ E
 
 -- what is true of take's ways
 pub takes-ways : (c : Receiver) (room : ℕ) (P : Answer → Type 0) → (forged c ≡ true → P (refused FORGED 0)) → P (refused NOTENDED 0)
-    → P (refused NOROOM (c .taken)) → P (done (c .taken) (take (c .length) (c .octets)) (c .count))
+    → P (refused NOROOM (c .taken)) → P (done (c .taken) (take (c .length) (c .octets)) (c .count) (c .gap))
     → ((c .ended ≡ MORE → ⊥) → (c .ended ≡ DONE → ⊥) → P (refused (c .ended) (c .taken))) → P (takes c room)
 unfolding takes roomFor
 takes-ways c room P f o n d e =
@@ -159,9 +155,9 @@ take-numbers c buffer = takes-ways c (length buffer) P (λ _. inl refl) (inl ref
 
 -- ---- what a refusal leaves
 
--- A take that isn't done: n and count 0, report buffer unchanged.
+-- A take that isn't done: n, count and gap 0, report buffer unchanged.
 pub take-refused : (c : Receiver) (buffer : List ℕ) → (takeOf c buffer .answer .number ≡ DONE → ⊥)
-    → (takeOf c buffer .answer .n ≡ 0) × (takeOf c buffer .answer .count ≡ 0) × (takeOf c buffer .buffer ≡ buffer)
+    → (takeOf c buffer .answer .n ≡ 0) × (takeOf c buffer .answer .count ≡ 0) × (takeOf c buffer .answer .gap ≡ 0) × (takeOf c buffer .buffer ≡ buffer)
 take-refused c buffer = leaves (takes c (length buffer)) buffer
 
 -- A refusal of push's symbol leaves the record as it was, but for the number that ends it.

@@ -39,21 +39,21 @@ module _ (mode : ℕ) (c : Receiver) (M : Made mode c) where
     passed : forged c ≡ false
     passed = passes c (complete k d F)
 
-    holds : Holds mode c report (c .count)
+    holds : Holds mode c report (c .count) (c .gap)
     unfolding told left
     holds =
         record {
           given = λ buffer h.
               ap (λ (a : Answer). answered a buffer)
-              (sym (takes-done c (length buffer) passed d (M .long) (omega (arith, report-long))) ∙ ap (λ (s : ℕ). done s report (c .count)) place);
+              (sym (takes-done c (length buffer) passed d (M .long) (omega (arith, report-long))) ∙ ap (λ (s : ℕ). done s report (c .count) (c .gap)) place);
           lacking = λ buffer l.
               ap (λ (a : Answer). answered a buffer)
               (sym (takes-short c (length buffer) passed d (M .long) (omega (arith, report-long))) ∙ ap (refused NOROOM) place);
         }
 
-  held : Honest c → c .ended ≡ DONE → (report : List ℕ) × (count : ℕ) × Holds mode c report count
+  held : Honest c → c .ended ≡ DONE → (report : List ℕ) × (count gap : ℕ) × Holds mode c report count gap
   held (wanting k before C O) d = absurd (omega (arith, O .number, d))
-  held (complete k d F) _ = (_, _, holds k d F)
+  held (complete k d F) _ = (_, _, _, holds k d F)
   held (ended t) d = absurd (not-ending (c .ended) DONE t refl d)
 
   -- no other record tells 3
@@ -72,7 +72,7 @@ module _ (mode : ℕ) (xs : List Call) where
   c = after (startOf mode .receiver) xs
 
   -- A record that calls made and that ended well holds a report.
-  pub take-holds : c .ended ≡ DONE → (report : List ℕ) × (count : ℕ) × Holds mode c report count
+  pub take-holds : c .ended ≡ DONE → (report : List ℕ) × (count gap : ℕ) × Holds mode c report count gap
   take-holds = held mode c (made mode xs) (made mode xs .honest)
 
   -- And take's 3 comes of no other.

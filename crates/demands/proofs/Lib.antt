@@ -1,7 +1,8 @@
 -- The demands, and the laws that they stand on, leaves first. To be read are Demand1, Demand2,
--- Demand3 and, from it, PutRight, NoFlat, OneAnswer and Reader; of the stepping receiver Stepped,
--- Stray, Forged, Holds and Given; of the checked profile Checked and Misread; of the reserved bit
--- TurnsOver and Withdrawn. Each opens with what it says in plain words.
+-- Demand3 and, from it, HowClose, PutRight, NoFlat, OneAnswer and Reader; of matching one symbol
+-- Matched; of the stepping receiver Stepped, Stray, Forged, Holds and Given; of the checked profile
+-- Checked and Misread; of the reserved bit TurnsOver and Withdrawn. Each opens with what it says in
+-- plain words.
 pub mod Among
 pub mod Digits
 pub mod Back
@@ -12,11 +13,13 @@ pub mod Found
 pub mod Fronts
 pub mod Frames
 pub mod Stands
+pub mod Gaps
 pub mod Ended
 pub mod Answered
 pub mod Close
 pub mod Placed
 pub mod Repair
+pub mod HowClose
 pub mod Demand3
 pub mod PutRight
 pub mod NoFlat
@@ -24,6 +27,7 @@ pub mod OneAnswer
 pub mod Reader
 pub mod Demand2
 pub mod Demand1
+pub mod Matched
 pub mod Given
 pub mod Stray
 pub mod Made

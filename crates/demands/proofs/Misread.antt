@@ -17,7 +17,7 @@ use Rattle.codes.specs.Radio.{Radio, Sound, known, radioOf}
 use Rattle.codes.specs.Chips.{distance}
 use Rattle.codes.specs.Symbol.{symbolOf}
 use Rattle.codes.proofs.Facts.{sound}
-use Rattle.codes.proofs.Unique.{Reads, of-symbol}
+use Rattle.codes.proofs.Unique.{Reads, some-words, of-symbol, read-as}
 use Rattle.frame.specs.Frame.{startOctet, octetsWith, perOctet, raws, encode, symbols, symbolsWith}
 use Rattle.frame.proofs.Below.{Below, below-at, below-set}
 use Rattle.frame.proofs.Count.{raws-below, symbols-long, symbols-same, symbols-below}
@@ -39,6 +39,7 @@ use Rattle.demands.proofs.Framed.{again}
 use Rattle.demands.proofs.Spread.{bitsOf, bits-raws, within-two}
 use Rattle.demands.proofs.Stands.{Stands}
 use Rattle.demands.proofs.Answered.{windows-answer}
+use Rattle.demands.proofs.Demand3.{answers-done}
 use Rattle.demands.proofs.Reader.{success-answers}
 use Rattle.demands.proofs.Checked.{with-report, checked-refused}
 
@@ -160,8 +161,7 @@ module _ (r : Radio) (S : Sound r) (bit : ℕ) (low : bit ≤ 1) (report : List 
 module _ (r : Radio) (S : Sound r) (chips vs : List ℕ) (A : ReadAs r chips vs) where
   read-at : (j : ℕ) → j < length vs → Reads r (window r chips j) (getD vs j 0) (symbolOf r (window r chips j) .distance)
   read-at j h =
-      of-symbol r (window r chips j) (getD vs j 0) (symbolOf r (window r chips j) .distance)
-      (λ i. record { number = A .read j h i; value = A .value j h i; distance = symbolOf r (window r chips j) .distance })
+      rw (← A .value j h) (of-symbol r (window r chips j) (some-words r S) (A .read j h))
 
   enough : length vs ≤ length (whole r chips)
   enough = omega (arith, le-div-iff-mul-le {x = length vs} (size-pos r S) .1 (A .long), whole-long r chips)
@@ -171,8 +171,7 @@ module _ (r : Radio) (S : Sound r) (chips vs : List ℕ) (A : ReadAs r chips vs)
       record {
         enough = enough;
         stands = λ j h.
-            rw (whole-at r chips j (omega (arith, enough)))
-            (λ i. record { number = A .read j h i; value = A .value j h i; distance = read-at j h .apart i });
+            rw (whole-at r chips j (omega (arith, enough)), ← A .value j h) (read-as r (window r chips j) (some-words r S) (A .read j h));
         total = refl;
       }
 
@@ -228,7 +227,7 @@ module _ (mode : ℕ) (k : known mode ≡ true) (bit : ℕ) (low : bit ≤ 1)
       record { short = omega (arith, long, short); octets = below-at 256 got (other-below r S bit low sent P s v h v-known) } in
       let T = rw (← q) at (read-stands r S chips vs A) in
       let a = windows-answer r S (whole r chips) bit low got R _ T (length buffer) (omega (arith, long, room)) in
-      let out = success-answers mode k chips buffer got _ .1 a in
-      checked-refused mode chips buffer got _ out (λ z. eqb-false BADCHECK DONE refl (sym got-wrong ∙ z))
+      let out = success-answers mode k chips buffer got _ .1 (answers-done r S (length buffer) chips got _ _ _ a) in
+      checked-refused mode chips buffer got _ _ out (λ z. eqb-false BADCHECK DONE refl (sym got-wrong ∙ z))
       ∙ ap₂ (λ x place. tells x place buffer) got-wrong
       (sym (symbols-same r bit got) ∙ ap length q ∙ length-set (symbolsWith r bit sent) s v ∙ symbols-same r bit sent)

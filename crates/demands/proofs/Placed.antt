@@ -4,15 +4,14 @@ use mathlib.Core.Path.{_≡_, refl}
 use mathlib.Core.Bool.{Bool, true, false, not}
 use mathlib.Core.List.{List, [], _∷_}
 use Prim.Native.Nat.{ℕ, suc, _+_, _*_, _<_}
-use lib.ListN.{length}
 use lib.Dec.{eqb, ltb}
 use borrow.Author.Tests.{eqb-true, eqb-false, ltb-true}
-use Rattle.codes.specs.declared.Symbol.{Symbol}
 use Rattle.codes.specs.Numbers.{DONE, NOROOM, RUNOUT, NOCHIP, LOST, PREAMBLE, BADSTART, MORE}
-use Rattle.codes.specs.Chips.{bad, among}
+use Rattle.codes.specs.Chips.{among}
 use Rattle.codes.specs.Radio.{Radio}
-use Rattle.codes.specs.Symbol.{valued, symbolOf}
+use Rattle.codes.specs.Symbol.{symbolOf}
 use Rattle.codes.proofs.Tests.{by-pick, not-both}
+use Rattle.codes.proofs.Unique.{symbol-numbers}
 use Rattle.frame.specs.Frame.{startOctet, perOctet}
 use Rattle.order.specs.Order.{Answer, refused, done, both, ends, rules, reading}
 use Rattle.demands.specs.Words.{Placed}
@@ -21,7 +20,7 @@ use Rattle.reader.proofs.Fair.{reading-ways}
 -- an answer is done, or refused where the reading order lets it be
 abbrev pub Standing : ℕ → Answer → Type 0
 Standing per (refused x place) = Placed per x place
-Standing per (done place report count) = Unit {0}
+Standing per (done place report count gap) = Unit {0}
 
 -- another number than those three may stand anywhere
 pub elsewhere : (per x place : ℕ) → among x (PREAMBLE ∷ BADSTART ∷ NOROOM ∷ []) ≡ false → Placed per x place
@@ -32,10 +31,8 @@ elsewhere per x place f =
     other y e t = not-both (among y (PREAMBLE ∷ BADSTART ∷ NOROOM ∷ [])) t (rw e at f)
 
 symbol-placed : (per s : ℕ) (r : Radio) (w : List ℕ) → Placed per (symbolOf r w .number) s
-unfolding symbolOf valued
 symbol-placed per s r w =
-    by-pick (λ (z : Symbol). Placed per (z .number) s) (bad w) _ _ (λ _. elsewhere per NOCHIP s refl)
-    (λ _. by-pick (λ (z : Symbol). Placed per (z .number) s) (ltb _ (length (r .words))) _ _ (λ _. elsewhere per DONE s refl) (λ _. elsewhere per LOST s refl))
+    symbol-numbers r w (λ x. Placed per x s) (elsewhere per NOCHIP s refl) (elsewhere per LOST s refl) (elsewhere per DONE s refl)
 
 first-of : (a b : Bool) → both a b ≡ true → a ≡ true
 first-of true b e = refl
@@ -70,4 +67,4 @@ rules-placed per room s raw start n =
 pub answer-placed : (r : Radio) (room : ℕ) (chips : List ℕ) → Standing (perOctet r) (reading r room chips)
 answer-placed r room =
     reading-ways r room (Standing (perOctet r)) (λ s. elsewhere (perOctet r) RUNOUT s refl) (λ s w _. symbol-placed (perOctet r) s r w)
-    (λ s raw start n _ _. rules-placed (perOctet r) room s raw start n) (λ place report count. tt)
+    (λ s raw start n _ _. rules-placed (perOctet r) room s raw start n) (λ place report count gap. tt)

@@ -3,7 +3,7 @@
 use mathlib.Core.Path.{_≡_, refl}
 use mathlib.Core.Bool.{true, false}
 use mathlib.Core.List.{List, [], _∷_}
-use Prim.Native.Nat.{ℕ, zero, suc, _≤_, _<_}
+use Prim.Native.Nat.{ℕ, zero, suc, _+_, _≤_, _<_}
 use native.Mathlib.Omega.{arith}
 use lib.ListN.{length, getD, set, take, drop}
 use lib.Seq.{take-nil}
@@ -19,11 +19,6 @@ unfolding distance
 distance-self [] = refl
 distance-self (x ∷ xs) = omega (arith, differ-same x x refl, distance-self xs)
 
-distance-nil : (xs : List ℕ) → distance xs [] ≡ 0
-unfolding distance
-distance-nil [] = refl
-distance-nil (x ∷ xs) = refl
-
 -- a place where two words differ, set as in the other: one difference less
 pub one-less : (xs ys : List ℕ) (i : ℕ) → i < length ys → length ys ≤ length xs → (getD xs i 0 ≡ getD ys i 0 → ⊥)
     → distance xs ys ≡ suc (distance (set xs i (getD ys i 0)) ys)
@@ -33,23 +28,27 @@ one-less (x ∷ xs) [] i h l n = absurd (omega arith)
 one-less (x ∷ xs) (y ∷ ys) zero h l n = omega (arith, differ-other x y n, differ-same y y refl)
 one-less (x ∷ xs) (y ∷ ys) (suc i) h l n = omega (arith, one-less xs ys i (omega arith) (omega arith) n)
 
--- any place set as in the other: no first chips are farther apart
-closer-first : (n : ℕ) (xs ys : List ℕ) (i : ℕ) → distance (take n (set xs i (getD ys i 0))) (take n ys) ≤ distance (take n xs) (take n ys)
-unfolding distance
-closer-first zero xs ys i = omega arith
-closer-first (suc n) [] ys i = omega arith
-closer-first (suc n) (x ∷ xs) [] i = simp distance-nil (omega arith)
-closer-first (suc n) (x ∷ xs) (y ∷ ys) zero = omega (arith, differ-same y y refl)
-closer-first (suc n) (x ∷ xs) (y ∷ ys) (suc i) = omega (arith, closer-first n xs ys i)
+-- one list lies between two others: the differences from it add up to theirs
+abbrev Between : List ℕ → List ℕ → List ℕ → Type 0
+Between xs zs ys = distance xs ys ≡ distance xs zs + distance zs ys
 
--- and no chips of one part of both
-pub closer : (m n : ℕ) (xs ys : List ℕ) (i : ℕ)
-    → distance (take n (drop m (set xs i (getD ys i 0)))) (take n (drop m ys)) ≤ distance (take n (drop m xs)) (take n (drop m ys))
-closer zero n xs ys i = closer-first n xs ys i
-closer (suc m) n [] ys i = omega arith
-closer (suc m) n (x ∷ xs) [] i = simp (take-nil {A = ℕ} n, distance-nil) (omega arith)
-closer (suc m) n (x ∷ xs) (y ∷ ys) zero = omega arith
-closer (suc m) n (x ∷ xs) (y ∷ ys) (suc i) = closer m n xs ys i
+-- a list with any place set as in the other lies between the two, in its first chips
+between-first : (n : ℕ) (xs ys : List ℕ) (i : ℕ) → i < length ys → Between (take n xs) (take n (set xs i (getD ys i 0))) (take n ys)
+unfolding distance
+between-first zero xs ys i h = refl
+between-first (suc n) [] ys i h = refl
+between-first (suc n) (x ∷ xs) [] i h = absurd (omega arith)
+between-first (suc n) (x ∷ xs) (y ∷ ys) zero h = omega (arith, differ-same y y refl, distance-self (take n xs))
+between-first (suc n) (x ∷ xs) (y ∷ ys) (suc i) h = omega (arith, differ-same x x refl, between-first n xs ys i (omega arith))
+
+-- and in the chips of one part
+pub between : (m n : ℕ) (xs ys : List ℕ) (i : ℕ) → i < length ys
+    → Between (take n (drop m xs)) (take n (drop m (set xs i (getD ys i 0)))) (take n (drop m ys))
+between zero n xs ys i h = between-first n xs ys i h
+between (suc m) n [] ys i h = simp (take-nil {A = ℕ} n) (omega (arith, distance-self []))
+between (suc m) n (x ∷ xs) [] i h = absurd (omega arith)
+between (suc m) n (x ∷ xs) (y ∷ ys) zero h = omega (arith, distance-self (take n (drop m xs)))
+between (suc m) n (x ∷ xs) (y ∷ ys) (suc i) h = between m n xs ys i (omega arith)
 
 -- chips stay chips where one is set to a chip
 pub bad-set : (xs : List ℕ) (i c : ℕ) → c ≤ 1 → bad xs ≡ false → bad (set xs i c) ≡ false

@@ -6,10 +6,10 @@ use Prim.Native.Nat.{ℕ, zero, suc, _*_, _≤_, _<_}
 use native.Mathlib.Omega.{arith}
 use lib.ListN.{length, getD, take}
 use lib.Seq.{getD-take, take-take}
-use Rattle.codes.specs.Chips.{distance}
-use Rattle.codes.specs.Radio.{Radio, word}
-use Rattle.codes.specs.Symbol.{reads, symbolOf}
+use Rattle.codes.specs.Radio.{Radio}
+use Rattle.codes.specs.Symbol.{symbolOf}
 use Rattle.codes.specs.declared.Symbol.{Symbol}
+use Rattle.codes.proofs.Unique.{readAs}
 use Rattle.frame.specs.Frame.{perOctet}
 use Rattle.order.specs.Received.{received, octetAt}
 use Rattle.order.specs.Order.{values, repaired}
@@ -18,11 +18,10 @@ use Rattle.order.proofs.Carried as carried
 use Rattle.demands.proofs.Back.{decode-take}
 use Rattle.demands.proofs.Octet.{octet-take}
 
--- the windows begin with the symbols vs, at the distances from their words; count chips are
--- repaired in all
+-- the windows begin with the symbols vs, each read as its word; count chips are repaired in all
 pub record Stands (r : Radio) (ws : List (List ℕ)) (vs : List ℕ) (count : ℕ) : Type 0 where
   pub enough : length vs ≤ length ws
-  pub stands : (j : ℕ) → j < length vs → symbolOf r (getD ws j []) ≡ reads (getD vs j 0) (distance (getD ws j []) (word r (getD vs j 0)))
+  pub stands : (j : ℕ) → j < length vs → symbolOf r (getD ws j []) ≡ readAs r (getD ws j []) (getD vs j 0)
   pub total : count ≡ repaired (take (length vs) (seen r ws))
 
 map-at : {A B : Type 0} (f : A → B) (l : List A) (j : ℕ) (d : A) (e : B) → j < length l → getD (map f l) j e ≡ f (getD l j d)

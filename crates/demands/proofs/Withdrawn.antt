@@ -11,6 +11,7 @@ use Rattle.codes.specs.Numbers.{DONE, BADMODE, TOOLONG, NOROOM, RUNOUT, NOCHIP,
 use Rattle.codes.specs.Numbers.{BADCHECK, ALLZERO, FORGED}
 use Rattle.codes.specs.Chips.{among}
 use Rattle.codes.proofs.Tests.{not-both}
+use Rattle.codes.specs.Symbol.{matchOf}
 use Rattle.frame.specs.Write.{written}
 use Rattle.reader.specs.Read.{readOf}
 use Rattle.receiver.specs.declared.Receiver.{Receiver}
@@ -19,6 +20,7 @@ use Rattle.checked.specs.Profile.{checkOf, readCheckedOf, writtenChecked}
 use Rattle.checked.proofs.Passing.{check-numbers}
 use Rattle.demands.specs.Calls.{Call, pushing, finishing, taking, called, after, tells}
 use Rattle.demands.proofs.Demand1.{read-numbers, write-numbers}
+use Rattle.demands.proofs.Matched.{match-numbers}
 use Rattle.demands.proofs.Given.{start-numbers, push-numbers, finish-numbers, take-numbers}
 use Rattle.demands.proofs.Made.{holds-no, made}
 use Rattle.demands.proofs.Forged.{refused-idle}
@@ -43,6 +45,10 @@ module _ (mode : ℕ) (xs buffer : List ℕ) where
   checked-read-never =
       other (DONE ∷ BADMODE ∷ NOROOM ∷ RUNOUT ∷ NOCHIP ∷ LOST ∷ PREAMBLE ∷ BADSTART ∷ TOOFEW ∷ BADCHECK ∷ ALLZERO ∷ []) refl _
       (checked-read-numbers mode xs buffer)
+
+-- Match.
+pub match-never : (mode : ℕ) (part : List ℕ) → matchOf mode part .number ≡ 9 → ⊥
+match-never mode part = other (DONE ∷ BADMODE ∷ NOCHIP ∷ LOST ∷ BADPART ∷ []) refl _ (match-numbers mode part)
 
 -- The check of a report.
 pub check-never : (octets : List ℕ) → checkOf octets ≡ 9 → ⊥

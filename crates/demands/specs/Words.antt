@@ -1,6 +1,6 @@
 -- The words that the demands are stated with: a report and its frames; that the reading answers a
--- report and a count; chips that are one of those frames but for a few in each symbol; the sum of
--- differences; and the reader's outcome that tells a report.
+-- report and a count; the gap of chips; chips that are one of those frames but for a few in each
+-- symbol; the sum of differences; and the reader's outcome that tells a report.
 use mathlib.Core.Path.{_≡_}
 use mathlib.Core.Bool.{false}
 use mathlib.Core.Logic.{_⊎_}
@@ -11,11 +11,11 @@ use Rattle.codes.specs.Numbers.{DONE, NOROOM, PREAMBLE, BADSTART}
 use Rattle.codes.specs.Chips.{distance, bad}
 use Rattle.codes.specs.Radio.{Radio, radioOf}
 use Rattle.frame.specs.Outcome.{Outcome, outcome}
-use Rattle.codes.specs.Symbol.{symbolOf}
+use Rattle.codes.specs.Symbol.{least, nearest, nextNearest, symbolOf}
 use Rattle.frame.specs.Frame.{symbols, frameWith}
 use Rattle.reader.specs.declared.Reading.{Reading}
 use Rattle.order.specs.Received.{received, octetAt}
-use Rattle.order.specs.Order.{done, window, whole, values, reading}
+use Rattle.order.specs.Order.{done, window, windows, whole, values, reading}
 
 -- a report: at most 127 numbers below 256
 pub record Report (report : List ℕ) : Type 0 where
@@ -48,9 +48,25 @@ frameRead r chips report = frameWith r (bitIn r (whole r chips)) report
 abbrev pub inverse : List ℕ → List ℕ
 inverse chips = map (λ (c : ℕ). 1 - c) chips
 
--- with so much room, the reading of the chips answers this report and this count
+-- how much nearer the nearest word is to a symbol's chips than the next-nearest
+abbrev pub windowGap : Radio → List ℕ → ℕ
+windowGap r w = nextNearest r w - nearest r w
+
+-- the gap of the chips' first k symbols: the least over their windows
+unfoldable pub gapIn : Radio → List ℕ → ℕ → ℕ
+gapIn r chips k = least (map (windowGap r) (windows r chips 0 k))
+
+-- over all symbols of a report's frame: preamble, start and length octet too
+abbrev pub frameGap : Radio → List ℕ → List ℕ → ℕ
+frameGap r chips report = gapIn r chips (length (symbols r report))
+
+-- the least distance of two words, by mode, which is the gap of a frame as written
+abbrev pub apartIn : ℕ → ℕ
+apartIn mode = getD (15 ∷ 12 ∷ 6 ∷ []) mode 15
+
+-- with so much room, the reading of the chips answers this report, this count and their gap
 abbrev pub Answers : Radio → ℕ → List ℕ → List ℕ → ℕ → Type 0
-Answers r room chips report count = reading r room chips ≡ done (length (symbols r report)) report count
+Answers r room chips report count = reading r room chips ≡ done (length (symbols r report)) report count (frameGap r chips report)
 
 -- The chips begin with chips 0 or 1 whose distance from a frame is at most the limit in each
 -- symbol's window, and count is the distance of the whole prefix from the whole frame.
@@ -71,11 +87,11 @@ unfoldable pub differences : Radio → List ℕ → List ℕ → ℕ → ℕ
 differences r xs ys zero = 0
 differences r xs ys (suc k) = differences r xs ys k + distance (window r xs k) (window r ys k)
 
--- the reader's outcome that says this report and this count, and leaves the report at the front of
--- the lent buffer
-abbrev pub success : ℕ → List ℕ → List ℕ → ℕ → Outcome Reading
-success mode buffer report count =
-    outcome (record { number = DONE; place = length (symbols (radioOf mode) report); n = length report; count = count })
+-- the reader's outcome that says this report, this count and this gap, and leaves the report at the
+-- front of the lent buffer
+abbrev pub success : ℕ → List ℕ → List ℕ → ℕ → ℕ → Outcome Reading
+success mode buffer report count gap =
+    outcome (record { number = DONE; place = length (symbols (radioOf mode) report); n = length report; count = count; gap = gap })
     (report ++ drop (length report) buffer)
 
 -- A number given back stands where the reading order lets it, in a frame with so many symbols an

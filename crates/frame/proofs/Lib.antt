@@ -4,7 +4,6 @@ pub mod Modes
 pub mod Chain
 pub mod Octets
 pub mod Over
-pub mod Words
 pub mod Count
 pub mod Parts
 pub mod Turns

@@ -10,8 +10,9 @@ use denote.Triple.Clauses.{AtExit}
 use borrow.Fn.Kinds.{Dens, resT, endedOf}
 use Rattle.codes.proofs.Settled.{settled, Settles, SettlesBoth, AsksNothing, PassesOn}
 use Rattle.frame.proofs.Settled.{same-outcome}
-use Rattle.frame.proofs.write.Reads as write-below
+use Rattle.writer.proofs.write.Reads as write-below
 use Rattle.reader.proofs.read.Reads as read-below
+use Rattle.matching.proofs.match_part.Reads as match-below
 use Rattle.receiver.proofs.Receiver.start.Reads as start-below
 use Rattle.receiver.proofs.Receiver.push.Reads as push-below
 use Rattle.receiver.proofs.Receiver.finish.Reads as finish-below
@@ -25,6 +26,8 @@ use Rattle.gateway.proofs.lernazhup_write.Kinds as write-kinds
 use Rattle.gateway.proofs.lernazhup_write.Reads as write-promise
 use Rattle.gateway.proofs.lernazhup_read.Kinds as read-kinds
 use Rattle.gateway.proofs.lernazhup_read.Reads as read-promise
+use Rattle.gateway.proofs.lernazhup_match.Kinds as match-kinds
+use Rattle.gateway.proofs.lernazhup_match.Reads as match-promise
 use Rattle.gateway.proofs.lernazhup_start.Kinds as start-kinds
 use Rattle.gateway.proofs.lernazhup_start.Reads as start-promise
 use Rattle.gateway.proofs.lernazhup_push.Kinds as push-kinds
@@ -51,6 +54,9 @@ write-settled κs a p q s t e f = same-outcome p q _ _ (settled _ _ e f)
 -- `s .1 .1 .0` is the third parameter at exit
 pub read-settled : SettlesBoth 2 read-kinds.ps read-kinds.r read-promise.Post (λ κs s. now (s .1 .1 .0))
 read-settled κs a p q s t e f = same-outcome p q _ _ (settled _ _ e f)
+
+pub match-settled : Settles 1 match-kinds.ps match-kinds.r match-promise.Post
+match-settled κs a p q s t = settled p q
 
 pub start-settled : Settles 0 start-kinds.ps start-kinds.r start-promise.Post
 start-settled κs a p q s t = settled p q
@@ -96,6 +102,9 @@ read-asks-nothing κs a = tt
 pub start-asks-nothing : AsksNothing 0 start-kinds.ps start-promise.Pre
 start-asks-nothing κs a = tt
 
+pub match-asks-nothing : AsksNothing 1 match-kinds.ps match-promise.Pre
+match-asks-nothing κs a = tt
+
 pub push-asks-nothing : AsksNothing 1 push-kinds.ps push-promise.Pre
 push-asks-nothing κs a = tt
 
@@ -128,6 +137,9 @@ read-passes-on κs a p s e = e
 
 pub start-passes-on : PassesOn 0 start-kinds.ps start-kinds.r start-promise.Post start-below.Post
 start-passes-on κs a p s e = e
+
+pub match-passes-on : PassesOn 1 match-kinds.ps match-kinds.r match-promise.Post match-below.Post
+match-passes-on κs a p s e = e
 
 pub push-passes-on : PassesOn 1 push-kinds.ps push-kinds.r push-promise.Post push-below.Post
 push-passes-on κs a p s e = e

@@ -1,7 +1,9 @@
 // The functions that C calls, with the names, parameters and structs of include/lernazhup.h. Each
 // is one call of a function below it and promises what that one does, so there is nothing more to
-// prove. The structs are those of `frame`, `reader` and `receiver`, laid out as C lays them out.
+// prove. The structs are those of `codes`, `frame`, `reader` and `receiver`, laid out as C lays them
+// out.
 ghost use mathlib.Core.Path.{_≡_};
+ghost use Rattle.codes.specs.Symbol.{matchOf};
 ghost use Rattle.frame.specs.Outcome.{outcome};
 ghost use Rattle.frame.specs.Write.{written};
 ghost use Rattle.reader.specs.Read.{readOf};
@@ -14,7 +16,7 @@ ghost use Rattle.checked.specs.Profile.{checkOf, readCheckedOf, writtenChecked}
 pub extern "C" fn lernazhup_write(mode: u32, report: &[u8], chips: &mut [u8]) -> frame::Written
     ensures { λ r. ⌜ outcome r (now (chips .exit)) ≡ written mode (now (report .entry)) (now (chips .entry)) ⌝ }
 {
-    frame::write(mode, report, chips)
+    writer::write(mode, report, chips)
 }
 
 // A frame's chips to the report.
@@ -23,6 +25,14 @@ pub extern "C" fn lernazhup_read(mode: u32, chips: &[u8], report: &mut [u8]) -> 
     ensures { λ r. ⌜ outcome r (now (report .exit)) ≡ readOf mode (now (chips .entry)) (now (report .entry)) ⌝ }
 {
     reader::read(mode, chips, report)
+}
+
+// One symbol's chips to the nearest word and both distances.
+#[no_mangle]
+pub extern "C" fn lernazhup_match(mode: u32, part: &[u8]) -> codes::Symbol
+    ensures { λ r. ⌜ r ≡ matchOf mode (now (part .entry)) ⌝ }
+{
+    matching::match_part(mode, part)
 }
 
 // A record for a mode.

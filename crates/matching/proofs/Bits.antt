@@ -14,14 +14,14 @@ use Rattle.codes.specs.Chips.{pick, differ, distance}
 use Rattle.codes.specs.Radio.{word, bpsk, bpskWords}
 use Rattle.codes.specs.Packed.{packed, byteOf, digitSum}
 use Rattle.codes.specs.Gathered.{Layout, layoutOf, eightOf, chipIn, chipsIn}
-use Rattle.matching.specs.Near.{nearness, nearestOf, nearestIn}
+use Rattle.codes.specs.Symbol.{nearestBut, nextNearest}
+use Rattle.codes.specs.Near.{nearestOf, nearestIn}
 use Rattle.codes.proofs.Tests.{by-test, both-true, every, each}
 use Rattle.codes.proofs.Chips.{distance-both, xor-differ}
 use Rattle.codes.proofs.Packed.{packed-cong, packed-both, packed-lt, mask-digits, digit-lt, eight-sum}
-use Rattle.codes.proofs.Gathering.{listed-long, listed-at}
-use Rattle.matching.proofs.Laid.{total, total-apart, distance-apart}
-use Rattle.matching.proofs.Leasts.{least-is}
-use Rattle.matching.proofs.Judging.{chip-in, chips-in}
+use Rattle.codes.proofs.Gathering.{listed-long, listed-at, chip-in, chips-in}
+use Rattle.columns.proofs.Laid.{total, total-apart, distance-apart}
+use Rattle.codes.proofs.Leasts.{nearest-is, word-is, but-is}
 use Rattle.codes.proofs.Facts.{bpsk-words, sound-bpsk}
 
 -- four bits inverted
@@ -170,27 +170,48 @@ module _ (bits : ℕ) (fits : bits < 2 ^ 64) where
     pub few : d ≤ 15
     few = omega (arith, e, other)
 
-    near : (v n : ℕ) → v < 2 → n ≡ distance symbol (word bpsk v) → n ≤ 7 → n * 16 + v ≡ nearestIn 0 bits
+    -- the nearer of two words, and so the other
+    near : (v n : ℕ) → v < 2 → n ≡ distance symbol (word bpsk v) → n ≤ 7 → (15 - n) * 1024 + n * 16 + v ≡ nearestIn 0 bits
     unfolding nearestIn nearestOf bpskWords
     near v n h q l =
-        least-is 0xFFFF (nearness bpsk symbol) 2 (n * 16 + v) v h (omega (arith, q)) (omega arith) (nearer v n h q l)
+        let w = word-is bpsk symbol v h (nearer v n h q l) (below v n h q l) in
+        let d = nearest-is bpsk symbol v h (nearer v n h q l) in
+        let o = but-is bpsk symbol v h (1 - v) (omega arith) (λ e. omega (arith, h)) (others v h) in
+        let b : nextNearest bpsk symbol ≡ 15 - n = ap (nearestBut bpsk symbol) w ∙ o ∙ rest v n h q in
+        rw (b, d, w, ← q)
       where
-        nearer : (v n : ℕ) → v < 2 → n ≡ distance symbol (word bpsk v) → n ≤ 7 → (u : ℕ) → u < 2 → n * 16 + v ≤ nearness bpsk symbol u
-        nearer zero n h q l zero i = omega (arith, q)
+        nearer : (v n : ℕ) → v < 2 → n ≡ distance symbol (word bpsk v) → n ≤ 7 → (u : ℕ) → u < 2 → distance symbol (word bpsk v) ≤ distance symbol (word bpsk u)
+        nearer zero n h q l zero i = omega arith
         nearer zero n h q l (suc zero) i = omega (arith, q, other)
         nearer zero n h q l (suc (suc u)) i = absurd (omega arith)
         nearer (suc zero) n h q l zero i = omega (arith, q, other)
-        nearer (suc zero) n h q l (suc zero) i = omega (arith, q)
+        nearer (suc zero) n h q l (suc zero) i = omega arith
         nearer (suc zero) n h q l (suc (suc u)) i = absurd (omega arith)
         nearer (suc (suc v)) n h q l u i = absurd (omega arith)
 
+        below : (v n : ℕ) → v < 2 → n ≡ distance symbol (word bpsk v) → n ≤ 7 → (u : ℕ) → u < v → distance symbol (word bpsk v) < distance symbol (word bpsk u)
+        below zero n h q l u i = absurd (omega arith)
+        below (suc zero) n h q l zero i = omega (arith, q, other)
+        below (suc zero) n h q l (suc u) i = absurd (omega arith)
+        below (suc (suc v)) n h q l u i = absurd (omega arith)
+
+        others : (v : ℕ) → v < 2 → (w : ℕ) → w < 2 → (w ≡ v → ⊥) → distance symbol (word bpsk (1 - v)) ≤ distance symbol (word bpsk w)
+        others v h w i n = let e : w ≡ 1 - v = omega (arith, n) in rw e (omega arith)
+
+        rest : (v n : ℕ) → v < 2 → n ≡ distance symbol (word bpsk v) → distance symbol (word bpsk (1 - v)) ≡ 15 - n
+        rest zero n h q = omega (arith, q, other)
+        rest (suc zero) n h q = omega (arith, q, other)
+        rest (suc (suc v)) n h q = absurd (omega arith)
+
     -- whichever it is
-    pub nearer-near : bitXor d (d / 8 * 15) * 16 + d / 8 ≡ nearestIn 0 bits
-    nearer-near =
+    pub nearer-near : (n : ℕ) → n ≡ bitXor d (d / 8 * 15) → (15 - n) * 1024 + n * 16 + d / 8 ≡ nearestIn 0 bits
+    nearer-near n q =
         by-test (ltb d 8)
         (λ t.
         let z : d / 8 ≡ 0 = omega (arith, ltb-true d 8 t) in
-        rw (z, xor-zero-r d) (near 0 d (omega arith) e (omega (arith, ltb-true d 8 t))))
+        let m : n ≡ d = q ∙ rw (z, xor-zero-r d) in
+        rw (z, m) (near 0 d (omega arith) e (omega (arith, ltb-true d 8 t))))
         (λ t.
         let o : d / 8 ≡ 1 = omega (arith, few, ltb-false d 8 t) in
-        rw (o, inverted d few) (near 1 (15 - d) (omega arith) (omega (arith, e, other)) (omega (arith, ltb-false d 8 t))))
+        let m : n ≡ 15 - d = q ∙ rw (o, inverted d few) in
+        rw (o, m) (near 1 (15 - d) (omega arith) (omega (arith, e, other)) (omega (arith, ltb-false d 8 t))))

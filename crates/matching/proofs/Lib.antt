@@ -1,8 +1,4 @@
--- Laws of the words' distances, of the least of them, and of what is made of it, leaves first.
-pub mod Laid
-pub mod Leasts
+-- Laws of matching, leaves first.
 pub mod Judging
 pub mod Bits
-pub mod Words
-pub mod Turned
 pub mod Settled

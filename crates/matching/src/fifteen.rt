@@ -8,17 +8,19 @@ ghost use Rattle.codes.specs.Chips.{distance};
 ghost use Rattle.codes.specs.Radio.{word, bpsk};
 ghost use Rattle.codes.specs.Packed.{digitSum};
 ghost use Rattle.codes.specs.Gathered.{layoutOf, chipIn, listed};
-ghost use Rattle.matching.specs.Near.{nearestIn};
+ghost use Rattle.codes.specs.Near.{nearestIn};
 
 // The two words differ in all fifteen chips, so the distance from the word for 1 is what is left of
-// fifteen, and the nearer word is that for 0 up to seven. Four bits inverted are what is left of
-// fifteen; a branch on which word it is would be a guess at every symbol.
+// fifteen, and the nearer word is that for 0 up to seven; the next-nearest is the other. Four bits
+// inverted are what is left of fifteen; a branch on which word it is would be a guess at every
+// symbol.
 pub fn nearest(bits: u64) -> u32
     ensures { λ r. ⌜ r ≡ nearestIn 0 bits ⌝ }
 {
     let d = apart(bits);
     let value = d / 8;
-    (d ^ (value * 15)) * 16 + value
+    let near = d ^ (value * 15);
+    (15 - near) * 1024 + near * 16 + value
 }
 
 // The distance from the word for 0. Chip 7 is in both eights, and left out of the second.

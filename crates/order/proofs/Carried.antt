@@ -2,24 +2,25 @@
 -- Assumes nothing.
 use mathlib.Core.Path.{_≡_, refl, sym, ap, _∙_}
 use mathlib.Core.Bool.{true}
-use mathlib.Core.List.{List, [], _∷_, _++_, map-append}
+use mathlib.Core.List.{List, [], _∷_, _++_, map, map-append}
 use Prim.Native.Nat.{ℕ, suc, _+_, _*_, _%_, _^_, _≤_, _<_}
 use native.Mathlib.Nat.{mod-eq-of-lt}
 use native.Mathlib.Omega.{arith}
 use lib.ListN.{length, getD, length-append, length-map}
 use lib.Seq.{getD-at}
 use lib.Pow.{pow-pos}
-use borrow.Author.Tests.{eqb-true, eqb-false, ne-eqb}
+use borrow.Author.Tests.{eqb-true, eqb-false, ne-eqb, lt-ltb}
 use Rattle.codes.specs.Radio.{Radio, Sound}
-use Rattle.codes.specs.Symbol.{reads}
+use Rattle.codes.specs.Symbol.{lesser, least, gapOf, NOGAP}
 use Rattle.codes.specs.declared.Symbol.{Symbol}
 use Rattle.codes.proofs.Tests.{by-test}
+use Rattle.codes.proofs.Leasts.{least-snoc}
 use Rattle.frame.specs.Frame.{perOctet}
 use Rattle.frame.proofs.Below.{Below, below-append}
 use Rattle.order.specs.declared.Hand.{Hand}
 use Rattle.order.specs.Received.{rawAfter, decode, received, octetAt}
-use Rattle.order.specs.Order.{ends, rules, values, repaired, lengthIn, verdict}
-use Rattle.order.specs.Taking.{begun, rawFrom, shifted, lengthAfter, moved}
+use Rattle.order.specs.Order.{ends, rules, values, repaired, smallestGap, lengthIn, verdict}
+use Rattle.order.specs.Taking.{begun, rawFrom, shifted, lengthAfter, gapAt, moved}
 use Rattle.order.proofs.Raw.{
   lastOf,
   last-snoc,
@@ -43,6 +44,8 @@ pub record Carries (r : Radio) (before : List Symbol) (h : Hand) : Type 0 where
   pub late : 6 * perOctet r ≤ length before → h .length ≡ lengthIn r (received r (values before))
   pub early : length before < 6 * perOctet r → h .length ≡ 0
   pub count : h .count ≡ repaired before
+  pub none : length before ≡ 0 → h .gap ≡ NOGAP
+  pub gap : 0 < length before → h .gap ≡ smallestGap before
   pub below : Below (2 ^ r .bits) (values before)
 
 values-snoc : (xs : List Symbol) (x : Symbol) → values (xs ++ x ∷ []) ≡ values xs ++ x .value ∷ []
@@ -56,6 +59,15 @@ repaired-append (x ∷ xs) ys = omega (arith, repaired-append xs ys)
 repaired-snoc : (xs : List Symbol) (x : Symbol) → repaired (xs ++ x ∷ []) ≡ repaired xs + x .distance
 unfolding repaired
 repaired-snoc xs x = omega (arith, repaired-append xs (x ∷ []))
+
+-- the smallest gap with one symbol more; before the first it is above every gap
+gap-snoc : (xs : List Symbol) (x : Symbol) (g : ℕ) → (length xs ≡ 0 → g ≡ NOGAP) → (0 < length xs → g ≡ smallestGap xs)
+    → gapOf x < NOGAP → lesser (gapOf x) g ≡ smallestGap (xs ++ x ∷ [])
+unfolding smallestGap least
+gap-snoc [] x g none some l = rw (none refl, lt-ltb (gapOf x) NOGAP l)
+gap-snoc (y ∷ ys) x g none some l =
+    ap (lesser (gapOf x)) (some (omega arith))
+    ∙ sym (ap least (map-append gapOf (y ∷ ys) (x ∷ [])) ∙ least-snoc (map gapOf (y ∷ ys)) (gapOf x) (omega arith))
 
 pub values-long : (xs : List Symbol) → length (values xs) ≡ length xs
 values-long xs = length-map xs (λ (x : Symbol). x .value)
@@ -79,12 +91,17 @@ module _ (r : Radio) (S : Sound r) where
         late = λ h. absurd (omega (arith, per-positive r S));
         early = λ h. refl;
         count = refl;
+        none = λ _. refl;
+        gap = λ h. absurd (omega arith);
         below = tt;
       }
 
-  module _ (before : List Symbol) (h : Hand) (C : Carries r before h) (v d : ℕ) (lv : v < 2 ^ r .bits) where
+  module _ (before : List Symbol) (h : Hand) (C : Carries r before h) (x : Symbol) (lv : x .value < 2 ^ r .bits) where
+    abbrev v : ℕ
+    v = x .value
+
     abbrev after : List Symbol
-    after = before ++ reads v d ∷ []
+    after = before ++ x ∷ []
 
     -- the raw symbol
     abbrev raw : ℕ
@@ -102,16 +119,16 @@ module _ (r : Radio) (S : Sound r) where
     n = lengthAfter (perOctet r) (h .taken) (h .length) octet
 
     after-long : length after ≡ suc (length before)
-    after-long = length-append before (reads v d ∷ []) ∙ omega arith
+    after-long = length-append before (x ∷ []) ∙ omega arith
 
     bits-snoc : bits ≡ received r (values before) ++ raw ∷ []
-    bits-snoc = received-snoc r before (reads v d)
+    bits-snoc = received-snoc r before x
 
     bits-long : length bits ≡ suc (length before)
     bits-long = received-long r after ∙ after-long
 
     after-below : Below (2 ^ r .bits) (values after)
-    after-below = rw (values-snoc before (reads v d)) (below-append (2 ^ r .bits) (values before) (v ∷ []) (C .below) (lv, tt))
+    after-below = rw (values-snoc before x) (below-append (2 ^ r .bits) (values before) (v ∷ []) (C .below) (lv, tt))
 
     raw-is : rawFrom r (h .last) v ≡ raw
     raw-is = rw (C .last, mod-eq-of-lt (last-below (2 ^ r .bits) 0 (values before) (pow-pos (r .bits)) (C .below)), mod-eq-of-lt lv)
@@ -148,14 +165,18 @@ module _ (r : Radio) (S : Sound r) where
         (lengthAfter (perOctet r) (length before) (h .length) octet) (lengthIn r bits) (octet-ends 4) (λ l. rw (C .taken) at (n-late l)))
 
     -- and one symbol more is carried
-    pub carries-more : suc (length before) < 2 ^ 32 → repaired before + d < 2 ^ 32 → (x : ℕ) → Carries r after (moved h x n d v octet)
-    carries-more a b x =
+    pub carries-more : suc (length before) < 2 ^ 32 → repaired before + x .distance < 2 ^ 32 → x .distance ≤ x .next → x .next < NOGAP
+        → (y : ℕ) → Carries r after (moved h y n x octet)
+    carries-more a b c d y =
+        let g : gapAt x ≡ gapOf x = omega (arith, c, d) in
         record {
           taken = rw (C .taken, mod-eq-of-lt {n = length before + 1} {m = 2 ^ 32} (omega arith)) (omega (arith, after-long));
-          last = sym (ap (lastOf 0) (values-snoc before (reads v d)) ∙ last-snoc 0 (values before) v);
+          last = sym (ap (lastOf 0) (values-snoc before x) ∙ last-snoc 0 (values before) v);
           octet = octet-is;
           late = λ l. n-late (omega (arith, after-long));
           early = λ l. n-early (omega (arith, after-long));
-          count = rw (C .count, mod-eq-of-lt {n = repaired before + d} {m = 2 ^ 32} b) (sym (repaired-snoc before (reads v d)));
+          count = rw (C .count, mod-eq-of-lt {n = repaired before + x .distance} {m = 2 ^ 32} b) (sym (repaired-snoc before x));
+          none = λ l. absurd (omega (arith, after-long));
+          gap = λ l. ap (λ (z : ℕ). lesser z (h .gap)) g ∙ gap-snoc before x (h .gap) (C .none) (C .gap) (omega (arith, d));
           below = after-below;
         }

@@ -10,6 +10,7 @@ use lib.Dec.{eqb, leb, ltb}
 use borrow.Author.Tests.{lt-ltb, le-ltb, eq-eqb, ne-eqb, eqb-true, leb-true, leb-false, ltb-true, ltb-false, not-false}
 use Rattle.codes.specs.Numbers.{DONE, NOROOM, PREAMBLE, BADSTART, MORE}
 use Rattle.codes.specs.Chips.{pick}
+use Rattle.codes.specs.declared.Symbol.{Symbol}
 use Rattle.codes.proofs.Tests.{by-test, not-both}
 use Rattle.frame.specs.Frame.{startOctet}
 use Rattle.order.specs.declared.Hand.{Hand}
@@ -117,9 +118,9 @@ both-true false b e = not-both false e refl
 
 -- The reader's test of room, after the rules with room for every report, is the rules with
 -- its room.
-module _ (per room s raw o n d v : ℕ) (h : Hand) (l : h .length ≤ room) (m : ends per 5 s ≡ false → n ≤ room) (q : ends per 5 s ≡ true → n ≤ 127) where
+module _ (per room s raw o n : ℕ) (y : Symbol) (h : Hand) (l : h .length ≤ room) (m : ends per 5 s ≡ false → n ≤ room) (q : ends per 5 s ≡ true → n ≤ 127) where
   abbrev next : ℕ → Hand
-  next x = onward x (moved h x n d v o) (stopped x h)
+  next x = onward x (moved h x n y o) (stopped x h)
 
   -- a refusal keeps n
   kept : (x : ℕ) → roomed room h (stopped x h) ≡ stopped x h

@@ -9,6 +9,8 @@ use Rattle.order.proofs.stop.Kinds as stop-kinds
 use Rattle.order.proofs.stop.Reads as stop-promise
 use Rattle.order.proofs.follow.Kinds as follow-kinds
 use Rattle.order.proofs.follow.Reads as follow-promise
+use Rattle.order.proofs.whole_octets.Kinds as whole-octets-kinds
+use Rattle.order.proofs.whole_octets.Reads as whole-octets-promise
 use Rattle.order.proofs.keep.Kinds as keep-kinds
 use Rattle.order.proofs.keep.Reads as keep-promise
 
@@ -20,6 +22,9 @@ stop-settled κs a p q s t = settled p q
 
 pub follow-settled : Settles 0 follow-kinds.ps follow-kinds.r follow-promise.Post
 follow-settled κs a p q s t = settled p q
+
+pub whole-octets-settled : Settles 0 whole-octets-kinds.ps whole-octets-kinds.r whole-octets-promise.Post
+whole-octets-settled κs a p q s t = settled p q
 
 -- `s .1 .1 .0` is the third parameter, the octets, at exit
 pub keep-settled : SettlesLent 1 keep-kinds.ps keep-kinds.r keep-promise.Post (λ κs s. now (s .1 .1 .0))
@@ -33,6 +38,9 @@ stop-asks-nothing κs a = tt
 
 pub follow-asks-nothing : AsksNothing 0 follow-kinds.ps follow-promise.Pre
 follow-asks-nothing κs a = tt
+
+pub whole-octets-asks-nothing : AsksNothing 0 whole-octets-kinds.ps whole-octets-promise.Pre
+whole-octets-asks-nothing κs a = tt
 
 pub keep-asks-nothing : AsksNothing 1 keep-kinds.ps keep-promise.Pre
 keep-asks-nothing κs a = tt

@@ -9,7 +9,7 @@ use native.Mathlib.Omega.{arith}
 use lib.ListN.{set}
 use lib.Dec.{eqb, leb}
 use lib.Pow.{pow-pos}
-use borrow.Author.Tests.{lt-ltb, le-ltb, le-leb, lt-leb, eq-eqb, ne-eqb, eqb-true}
+use borrow.Author.Tests.{lt-ltb, le-ltb, le-leb, lt-leb, eq-eqb, ne-eqb, eqb-true, eqb-false}
 use Rattle.codes.specs.Numbers.{DONE, BADMODE, MORE}
 use Rattle.codes.specs.Radio.{Radio, known, radioOf}
 use Rattle.codes.specs.declared.Symbol.{Symbol}
@@ -22,8 +22,8 @@ use Rattle.frame.proofs.Modes.{few-values}
 use Rattle.order.specs.declared.Hand.{Hand}
 use Rattle.order.specs.Order.{rules}
 use Rattle.order.proofs.Rules.{inside-length, preamble-rules, preamble-fair}
-use Rattle.order.specs.Taking.{stopped, rawBy, rawFrom, shiftedBy, shifted, lengthAfter, preambled, moved}
-use Rattle.order.specs.Taking.{onward, advanced, followed, Roomy, keptIn, keptAt}
+use Rattle.order.specs.Taking.{stopped, rawBy, rawFrom, shiftedBy, shifted, lengthAfter, preambled, gapAt, moved}
+use Rattle.order.specs.Taking.{onward, advanced, followed, Roomy, wholeAt, keptIn, keptAt}
 
 -- a raw symbol is below 16
 pub raw-few : (mode last v : ℕ) → rawFrom (radioOf mode) last v < 16
@@ -52,6 +52,10 @@ goes x a b = ⊎-elim (λ e. rw e) (λ e. rw e)
 pub stops : {A : Type 0} (x : ℕ) (a b : A) → (x ≡ MORE → ⊥) → (x ≡ DONE → ⊥) → onward x a b ≡ b
 stops x a b m d = rw (ne-eqb x MORE m, ne-eqb x DONE d)
 
+-- a symbol's gap, of what a wrapping difference says of itself
+pub sub-gap : (x : Symbol) (g : ℕ) → g < 2 ^ 32 → (g + x .distance) % 2 ^ 32 ≡ x .next → g ≡ gapAt x
+sub-gap x g h e = omega (arith, e)
+
 -- the ways of `follow`
 module _ (mode : ℕ) (h : Hand) (x : Symbol) where
   pub follow-no-radio : known mode ≡ false → stopped BADMODE h ≡ followed mode h x
@@ -65,7 +69,7 @@ module _ (mode : ℕ) (h : Hand) (x : Symbol) where
 
     pub follow-on : x .number ≡ DONE → (per raw octet n number : ℕ) → per ≡ perOctet (radioOf mode) → raw ≡ rawFrom (radioOf mode) (h .last) (x .value)
         → octet ≡ shifted (radioOf mode) (h .octet) raw → n ≡ lengthAfter per (h .taken) (h .length) octet → number ≡ rules per 127 (h .taken) raw octet n
-        → onward number (moved h number n (x .distance) (x .value) octet) (stopped number h) ≡ followed mode h x
+        → onward number (moved h number n x octet) (stopped number h) ≡ followed mode h x
     unfolding followed advanced
     follow-on d per raw octet n number ep er eo en ex = rw (k, eq-eqb (x .number) DONE d, ex, en, eo, er, ep)
 
@@ -75,15 +79,15 @@ module _ (mode : ℕ) (h : Hand) (x : Symbol) where
     follow-preamble d per raw first ep er ef n =
         let octet = shifted (radioOf mode) (h .octet) raw in
         let long = lengthAfter per (h .taken) (h .length) octet in
-        sym (stops first (moved h first long (x .distance) (x .value) octet) (stopped first h) n (λ z. preamble-fair per (h .taken) raw (sym ef ∙ z)))
+        sym (stops first (moved h first long x octet) (stopped first h) n (λ z. preamble-fair per (h .taken) raw (sym ef ∙ z)))
         ∙ follow-on d per raw octet long first ep er refl refl (ef ∙ preamble-rules per (h .taken) raw (λ z. n (ef ∙ z)) octet long)
 
 -- a hand that a symbol stops stays as it was, but for the number
 abbrev Stays : Hand → Hand → Type 0
 Stays h g = (g .number ≡ MORE → ⊥) → (g .number ≡ DONE → ⊥) → g ≡ stopped (g .number) h
 
-onward-stays : (h : Hand) (x n d v octet : ℕ) → Stays h (onward x (moved h x n d v octet) (stopped x h))
-onward-stays h x n d v octet =
+onward-stays : (h : Hand) (x n octet : ℕ) (y : Symbol) → Stays h (onward x (moved h x n y octet) (stopped x h))
+onward-stays h x n octet y =
     by-test (eqb x MORE)
     (λ t. rw t (λ m e. absurd (m (eqb-true x MORE t))))
     (λ t. rw t (by-test (eqb x DONE) (λ u. rw u (λ m e. absurd (e (eqb-true x DONE u)))) (λ u. rw u (λ m e. refl))))
@@ -109,7 +113,7 @@ unfolding followed advanced
 followed-stops mode h x =
     by-test (known mode)
     (λ k. rw k (by-test (eqb (x .number) DONE)
-    (λ e. rw e (onward-stays h (numberIn mode h x) (lengthIn mode h x) (x .distance) (x .value) (octetIn mode h x)))
+    (λ e. rw e (onward-stays h (numberIn mode h x) (lengthIn mode h x) (octetIn mode h x) x))
     (λ e. rw e (λ m d. refl))))
     (λ k. rw k (λ m d. refl))
 
@@ -120,10 +124,10 @@ kept-stops mode h octets m d = by-test (known mode) (λ k. rw k (stops (h .numbe
 
 -- Within an octet a symbol brings no length, so what there was room for there still is.
 module _ (mode : ℕ) (room : ℕ) (h : Hand) (fits : h .length ≤ room) where
-  one-more : (r : Radio) → ((t : ℕ) → ((t + 1) % 2 ^ 32 % perOctet r ≡ 0 → ⊥) → (t + 1) % perOctet r ≡ 0 → ⊥) → (x octet d v : ℕ)
-      → let g = onward x (moved h x (lengthAfter (perOctet r) (h .taken) (h .length) octet) d v octet) (stopped x h) in
+  one-more : (r : Radio) → ((t : ℕ) → ((t + 1) % 2 ^ 32 % perOctet r ≡ 0 → ⊥) → (t + 1) % perOctet r ≡ 0 → ⊥) → (x octet : ℕ) (y : Symbol)
+      → let g = onward x (moved h x (lengthAfter (perOctet r) (h .taken) (h .length) octet) y octet) (stopped x h) in
       (g .taken % perOctet r ≡ 0 → ⊥) → g .length ≤ room
-  one-more r p x octet d v =
+  one-more r p x octet y =
       by-test (eqb x MORE)
       (λ t. rw t (λ n. rw (← inside-length (perOctet r) (h .taken) (p (h .taken) n) (h .length) octet) fits))
       (λ t. rw t (by-test (eqb x DONE)
@@ -135,7 +139,7 @@ module _ (mode : ℕ) (room : ℕ) (h : Hand) (fits : h .length ≤ room) where
   followed-roomy x =
       by-test (known mode)
       (λ k. rw k (by-test (eqb (x .number) DONE)
-      (λ d. rw d (one-more (radioOf mode) wraps (numberIn mode h x) (octetIn mode h x) (x .distance) (x .value)))
+      (λ d. rw d (one-more (radioOf mode) wraps (numberIn mode h x) (octetIn mode h x) x))
       (λ d. rw d (λ n. fits))))
       (λ k. rw k (λ n. fits))
     where
@@ -181,3 +185,11 @@ module _ (mode : ℕ) (h : Hand) (octets : List ℕ) where
           pub keep-past : 127 ≤ h .taken / per - 7 → octets ≡ keptAt mode h octets
           keep-past b =
               sym (kept ∙ rw (le-leb (7 * per) (h .taken) l, eq-eqb (h .taken % per) 0 z, le-ltb (h .taken / per - 7) 127 b))
+
+-- where the symbols taken are no whole octets, nothing is kept
+pub kept-partial : (mode : ℕ) (h : Hand) (octets : List ℕ) → wholeAt mode h ≡ false → octets ≡ keptAt mode h octets
+unfolding wholeAt
+kept-partial mode h octets w =
+    by-test (known mode)
+    (λ k. keep-partial mode h octets k (eqb-false (h .taken % perOctet (radioOf mode)) 0 (rw k at w)))
+    (λ k. keep-no-radio mode h octets k)

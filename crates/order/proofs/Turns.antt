@@ -8,19 +8,19 @@ use Prim.Native.Nat.{ℕ, suc, _+_, _*_, _%_, _^_, _≤_, _<_}
 use native.Mathlib.Nat.{mod-eq-of-lt, mul-le-mul-right, mul-suc, le-add-right, div-le-self}
 use native.Mathlib.Omega.{arith}
 use lib.ListN.{length}
-use lib.Dec.{eqb, ltb}
+use lib.Dec.{eqb}
 use borrow.Author.Tests.{le-ltb, eq-eqb, ne-eqb, eqb-true, eqb-false}
 use Rattle.codes.specs.Numbers.{DONE, MORE}
-use Rattle.codes.specs.Chips.{pick, bad}
+use Rattle.codes.specs.Chips.{pick}
 use Rattle.codes.specs.Radio.{Radio, Sound}
-use Rattle.codes.specs.Symbol.{reads, within, first, valued, symbolOf}
+use Rattle.codes.specs.Symbol.{symbolOf}
 use Rattle.codes.specs.declared.Symbol.{Symbol}
 use Rattle.codes.proofs.Tests.{by-test}
-use Rattle.codes.proofs.Unique.{of-symbol}
+use Rattle.codes.proofs.Unique.{some-words, closeness-order, of-symbol, of-done, symbol-numbers}
 use Rattle.frame.specs.Frame.{perOctet}
 use Rattle.order.specs.declared.Hand.{Hand}
 use Rattle.order.specs.Received.{received}
-use Rattle.order.specs.Order.{Answer, done, ends, rules, values, repaired, verdict, reportIn, concluded, taking}
+use Rattle.order.specs.Order.{Answer, done, ends, rules, values, repaired, smallestGap, verdict, reportIn, concluded, taking}
 use Rattle.order.specs.Order as order
 use Rattle.order.specs.Taking.{begun, stopped, rawFrom, shifted, lengthAfter, moved, onward, advanced, roomed, Complete}
 use Rattle.order.proofs.Raw.{per-positive}
@@ -61,7 +61,7 @@ module _ (r : Radio) (room : ℕ) (before : List Symbol) (x : Symbol) (g : Hand)
     pub carries : Carries r (before ++ x ∷ []) g
     pub all : Complete r room g
     pub same : (next : Answer) → taking r room before x next ≡ done (suc (length before))
-        (reportIn r (received r (values (before ++ x ∷ [])))) (repaired (before ++ x ∷ []))
+        (reportIn r (received r (values (before ++ x ∷ [])))) (repaired (before ++ x ∷ [])) (smallestGap (before ++ x ∷ []))
 
   -- refused
   pub record Off : Type 0 where
@@ -75,27 +75,49 @@ module _ (r : Radio) (room : ℕ) (before : List Symbol) (x : Symbol) (g : Hand)
 
 -- with room for every report the test of room changes nothing
 pub room-for-any : (r : Radio) (h : Hand) (x : Symbol) → h .length ≤ 127
-    → roomed 127 h (pick (eqb (x .number) DONE) (advanced r h (x .value) (x .distance)) (stopped (x .number) h))
-    ≡ pick (eqb (x .number) DONE) (advanced r h (x .value) (x .distance)) (stopped (x .number) h)
+    → roomed 127 h (pick (eqb (x .number) DONE) (advanced r h x) (stopped (x .number) h))
+    ≡ pick (eqb (x .number) DONE) (advanced r h x) (stopped (x .number) h)
 unfolding advanced
 room-for-any r h x f =
     let raw = rawFrom r (h .last) (x .value) in
     let octet = shifted r (h .octet) raw in
     by-test (eqb (x .number) DONE)
     (λ a. rw a (rules-room (perOctet r) 127 (h .taken) raw octet
-    (lengthAfter (perOctet r) (h .taken) (h .length) octet) (x .distance) (x .value) h f (λ e. rw e f)
+    (lengthAfter (perOctet r) (h .taken) (h .length) octet) x h f (λ e. rw e f)
     (length-few (perOctet r) (h .taken) (h .length) octet)))
     (λ a. rw (a, le-ltb 127 (h .length) f))
 
 -- no symbol is answered 13
 symbol-number : (r : Radio) (w : List ℕ) → symbolOf r w .number ≡ MORE → ⊥
-unfolding symbolOf valued
-symbol-number r w e =
-    by-test (bad w) (λ a. omega (arith, rw a at e))
-    (λ a. by-test (ltb (first (within r w) 0 (length (r .words))) (length (r .words)))
-    (λ b. omega (arith, rw (a, b) at e)) (λ b. omega (arith, rw (a, b) at e)))
+symbol-number r w = symbol-numbers r w (λ x. x ≡ MORE → ⊥) (λ e. omega (arith, e)) (λ e. omega (arith, e)) (λ e. omega (arith, e))
 
-module _ (r : Radio) (S : Sound r) (low : r .limit ≤ 255) (room : ℕ) (before : List Symbol) (h : Hand) (C : Carries r before h) (O : Open r room h) where
+-- the radio's numbers fit the code's with room to spare
+pub record Small (r : Radio) : Type 0 where
+  pub low : r .limit ≤ 255
+  pub short : r .size ≤ 255
+
+-- a symbol that was read: what a hand needs to know of it
+pub record Read (r : Radio) (x : Symbol) : Type 0 where
+  pub number : x .number ≡ DONE
+  pub value : x .value < 2 ^ r .bits
+  pub distance : x .distance ≤ r .limit
+  pub next : x .distance ≤ x .next
+  pub short : x .next ≤ r .size
+
+pub symbol-read : (r : Radio) → Sound r → (w : List ℕ) → symbolOf r w .number ≡ DONE → Read r (symbolOf r w)
+symbol-read r S w e =
+    let t = of-symbol r w (some-words r S) e in
+    let c = of-done r w e in
+    let o = closeness-order r S w in
+    record {
+      number = e;
+      value = rw (S .many) at (t .known);
+      distance = t .near;
+      next = rw c (o .0);
+      short = rw c (o .1);
+    }
+
+module _ (r : Radio) (S : Sound r) (small : Small r) (room : ℕ) (before : List Symbol) (h : Hand) (C : Carries r before h) (O : Open r room h) where
   -- symbols before the end of the longest frame
   early : h .taken < 1064
   early = omega (arith, div-le-self 8 (r .bits), O .under, mul-le-mul-right (perOctet r) (more (h .length) (O .few)))
@@ -103,7 +125,13 @@ module _ (r : Radio) (S : Sound r) (low : r .limit ≤ 255) (room : ℕ) (before
       more : (n : ℕ) → n ≤ 127 → 6 + n ≤ 133
       more n l = omega arith
 
-  module _ (v d : ℕ) (lv : v < 2 ^ r .bits) (ld : d ≤ r .limit) where
+  module _ (x : Symbol) (X : Read r x) where
+    abbrev v : ℕ
+    v = x .value
+
+    abbrev d : ℕ
+    d = x .distance
+
     abbrev octet : ℕ
     octet = shifted r (h .octet) (rawFrom r (h .last) v)
 
@@ -111,18 +139,18 @@ module _ (r : Radio) (S : Sound r) (low : r .limit ≤ 255) (room : ℕ) (before
     n = lengthAfter (perOctet r) (h .taken) (h .length) octet
 
     abbrev found : ℕ
-    found = verdict r room (length before) (received r (values (before ++ reads v d ∷ [])))
+    found = verdict r room (length before) (received r (values (before ++ x ∷ [])))
 
     abbrev code : ℕ → ℕ
     code m = rules (perOctet r) m (h .taken) (rawFrom r (h .last) v) octet n
 
     -- the hand that the code makes is moved or stopped by the reading order's number
-    found-hand : roomed room h (advanced r h v d) ≡ onward found (moved h found n d v octet) (stopped found h)
+    found-hand : roomed room h (advanced r h x) ≡ onward found (moved h found n x octet) (stopped found h)
     unfolding advanced
     found-hand =
-        rules-room (perOctet r) room (h .taken) (rawFrom r (h .last) v) octet n d v h (O .fits) (λ e. rw e (O .fits))
+        rules-room (perOctet r) room (h .taken) (rawFrom r (h .last) v) octet n x h (O .fits) (λ e. rw e (O .fits))
         (length-few (perOctet r) (h .taken) (h .length) octet)
-        ∙ ap (λ (y : ℕ). onward y (moved h y n d v octet) (stopped y h)) (verdict-is r S before h C v d lv room)
+        ∙ ap (λ (y : ℕ). onward y (moved h y n x octet) (stopped y h)) (verdict-is r S before h C x (X .value) room)
 
     -- n has room, on the last symbol of the length octet by the rules, else as before
     n-fits : Clear (perOctet r) room (h .taken) (rawFrom r (h .last) v) octet n → (n ≤ room) × (n ≤ 127)
@@ -142,21 +170,23 @@ module _ (r : Radio) (S : Sound r) (low : r .limit ≤ 255) (room : ℕ) (before
     taken-more = mod-eq-of-lt {n = h .taken + 1} {m = 2 ^ 32} (omega (arith, early)) ∙ omega arith
 
     count-small : h .count + d < 2 ^ 32
-    count-small = omega (arith, early, O .low, ld, low, mul-le-mul-right (h .taken) low)
+    count-small = omega (arith, early, O .low, X .distance, small .low, mul-le-mul-right (h .taken) (small .low))
 
     count-more : (h .count + d) % 2 ^ 32 ≡ h .count + d
     count-more = mod-eq-of-lt {n = h .count + d} {m = 2 ^ 32} count-small
 
     low-more : (h .count + d) % 2 ^ 32 ≤ r .limit * ((h .taken + 1) % 2 ^ 32)
-    low-more = rw (taken-more, count-more) (omega (arith, O .low, ld, mul-suc (r .limit) (h .taken)))
+    low-more = rw (taken-more, count-more) (omega (arith, O .low, X .distance, mul-suc (r .limit) (h .taken)))
 
-    carried : (y : ℕ) → Carries r (before ++ reads v d ∷ []) (moved h y n d v octet)
-    carried y = carries-more r S before h C v d lv (omega (arith, early, C .taken)) (rw (← C .count) count-small) y
+    carried : (y : ℕ) → Carries r (before ++ x ∷ []) (moved h y n x octet)
+    carried y =
+        carries-more r S before h C x (X .value) (omega (arith, early, C .taken)) (rw (← C .count) count-small)
+        (X .next) (omega (arith, X .short, small .short)) y
 
     code-is : code room ≡ found
-    code-is = verdict-is r S before h C v d lv room
+    code-is = verdict-is r S before h C x (X .value) room
 
-    on : found ≡ MORE → On r room before (reads v d) (moved h found n d v octet)
+    on : found ≡ MORE → On r room before x (moved h found n x octet)
     unfolding taking concluded
     on f =
         let p = n-fits (rules-clear (perOctet r) room (h .taken) (rawFrom r (h .last) v) octet n MORE (inl refl) (code-is ∙ f)) in
@@ -170,10 +200,10 @@ module _ (r : Radio) (S : Sound r) (low : r .limit ≤ 255) (room : ℕ) (before
                 few = p .1;
                 low = low-more;
               };
-          same = λ next. rw (eq-eqb found MORE f);
+          same = λ next. rw (eq-eqb (x .number) DONE (X .number), eq-eqb found MORE f);
         }
 
-    over : found ≡ DONE → Over r room before (reads v d) (moved h found n d v octet)
+    over : found ≡ DONE → Over r room before x (moved h found n x octet)
     unfolding taking concluded
     over f =
         let p = n-fits (rules-clear (perOctet r) room (h .taken) (rawFrom r (h .last) v) octet n DONE (inr refl) (code-is ∙ f)) in
@@ -187,24 +217,24 @@ module _ (r : Radio) (S : Sound r) (low : r .limit ≤ 255) (room : ℕ) (before
                 few = p .1;
                 low = low-more;
               };
-          same = λ next. rw f;
+          same = λ next. rw (eq-eqb (x .number) DONE (X .number), f);
         }
 
-    off : (found ≡ MORE → ⊥) → (found ≡ DONE → ⊥) → Off r room before (reads v d) (stopped found h)
+    off : (found ≡ MORE → ⊥) → (found ≡ DONE → ⊥) → Off r room before x (stopped found h)
     unfolding taking concluded
-    off a b = record { more = a; over = b; taken = C .taken; same = λ next. rw (ne-eqb found MORE a, ne-eqb found DONE b) }
+    off a b = record { more = a; over = b; taken = C .taken; same = λ next. rw (eq-eqb (x .number) DONE (X .number), ne-eqb found MORE a, ne-eqb found DONE b) }
 
-    value-turned : (g : Hand) → g ≡ roomed room h (advanced r h v d) → Turned r room before (reads v d) g
+    value-turned : (g : Hand) → g ≡ roomed room h (advanced r h x) → Turned r room before x g
     value-turned g e =
         by-test (eqb found MORE)
         (λ a. let f = eqb-true found MORE a in
-        inl (rw (e, found-hand, goes found (moved h found n d v octet) (stopped found h) (inl f)) (on f)))
+        inl (rw (e, found-hand, goes found (moved h found n x octet) (stopped found h) (inl f)) (on f)))
         (λ a. by-test (eqb found DONE)
         (λ b. let f = eqb-true found DONE b in
-        inr (inl (rw (e, found-hand, goes found (moved h found n d v octet) (stopped found h) (inr f)) (over f))))
+        inr (inl (rw (e, found-hand, goes found (moved h found n x octet) (stopped found h) (inr f)) (over f))))
         (λ b. let p = eqb-false found MORE a in
         let q = eqb-false found DONE b in
-        inr (inr (rw (e, found-hand, stops found (moved h found n d v octet) (stopped found h) p q) (off p q)))))
+        inr (inr (rw (e, found-hand, stops found (moved h found n x octet) (stopped found h) p q) (off p q)))))
 
   -- a symbol that is refused ends the reading
   refused-turned : (x : Symbol) → (x .number ≡ MORE → ⊥) → (x .number ≡ DONE → ⊥)
@@ -215,12 +245,10 @@ module _ (r : Radio) (S : Sound r) (low : r .limit ≤ 255) (room : ℕ) (before
 
   -- one turn, with the symbol of a window
   pub next-hand : (w : List ℕ) (x : Symbol) → x ≡ symbolOf r w → (g : Hand)
-      → g ≡ roomed room h (pick (eqb (x .number) DONE) (advanced r h (x .value) (x .distance)) (stopped (x .number) h)) → Turned r room before x g
+      → g ≡ roomed room h (pick (eqb (x .number) DONE) (advanced r h x) (stopped (x .number) h)) → Turned r room before x g
   next-hand w x i g e =
       by-test (eqb (x .number) DONE)
       (λ a.
-      let q : x ≡ reads (x .value) (x .distance) =
-      ap (λ (n : ℕ). record { number = n; value = x .value; distance = x .distance }) (eqb-true (x .number) DONE a) in
-      let t = of-symbol r w (x .value) (x .distance) (sym i ∙ q) in
-      subst (λ (y : Symbol). Turned r room before y g) (sym q) (value-turned (x .value) (x .distance) (rw (S .many) at (t .known)) (t .near) g (rw a at e)))
+      let n = eqb-true (x .number) DONE a in
+      value-turned x (subst (Read r) (sym i) (symbol-read r S w (ap (λ (y : Symbol). y .number) (sym i) ∙ n))) g (rw a at e))
       (λ a. refused-turned x (λ m. symbol-number r w (ap (λ (y : Symbol). y .number) (sym i) ∙ m)) (eqb-false (x .number) DONE a) g (rw a at e))

@@ -15,12 +15,12 @@ use Rattle.order.specs.Order.{Answer, refused, window, windows, whole, t
 
 module _ (r : Radio) (chips : List ℕ) where
   -- k windows are k lists
-  windows-long : (s k : ℕ) → length (windows r chips s k) ≡ k
+  pub windows-long : (s k : ℕ) → length (windows r chips s k) ≡ k
   unfolding windows
   windows-long s zero = refl
   windows-long s (suc k) = ap suc (windows-long (suc s) k)
 
-  windows-at : (s k i : ℕ) → i < k → getD (windows r chips s k) i [] ≡ window r chips (s + i)
+  pub windows-at : (s k i : ℕ) → i < k → getD (windows r chips s k) i [] ≡ window r chips (s + i)
   unfolding windows
   windows-at s zero i h = absurd (omega arith)
   windows-at s (suc k) zero h = rw add-zero

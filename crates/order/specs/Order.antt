@@ -9,16 +9,16 @@ use lib.Dec.{eqb, ltb}
 use Rattle.codes.specs.Numbers.{DONE, NOROOM, RUNOUT, PREAMBLE, BADSTART, MORE}
 use Rattle.codes.specs.Chips.{pick}
 use Rattle.codes.specs.Radio.{Radio}
-use Rattle.codes.specs.Symbol.{symbolOf}
+use Rattle.codes.specs.Symbol.{least, symbolOf, gapOf}
 use Rattle.codes.specs.declared.Symbol.{Symbol}
 use Rattle.frame.specs.Frame.{startOctet, perOctet}
 use Rattle.order.specs.Received.{received, octetAt, octetsFrom}
 
--- refused with a number at a place; or done at a place, with the report and the number of
--- chips repaired
+-- refused with a number at a place; or done at a place, with the report, the number of chips
+-- repaired and the smallest gap
 pub data Answer : Type 0 where
   refused : ℕ → ℕ → Answer
-  done : ℕ → List ℕ → ℕ → Answer
+  done : ℕ → List ℕ → ℕ → ℕ → Answer
 
 -- one test and another
 abbrev pub both : Bool → Bool → Bool
@@ -63,6 +63,10 @@ unfoldable pub repaired : List Symbol → ℕ
 repaired [] = 0
 repaired (x ∷ xs) = x .distance + repaired xs
 
+-- the smallest gap of them: how close the closest was
+unfoldable pub smallestGap : List Symbol → ℕ
+smallestGap xs = least (map gapOf xs)
+
 -- Octet 5 of a frame is its length octet, which has n in its low seven bits. Its top bit, which is
 -- reserved, is not looked at.
 abbrev pub lengthIn : Radio → List ℕ → ℕ
@@ -81,7 +85,7 @@ reportIn r bs = octetsFrom r 6 (lengthIn r bs) bs
 -- the end
 unfoldable pub concluded : Radio → ℕ → List Symbol → ℕ → Answer → Answer
 concluded r s read x next =
-    pick (eqb x MORE) next (pick (eqb x DONE) (done (suc s) (reportIn r (received r (values read))) (repaired read)) (refused x s))
+    pick (eqb x MORE) next (pick (eqb x DONE) (done (suc s) (reportIn r (received r (values read))) (repaired read) (smallestGap read)) (refused x s))
 
 -- The symbol x in hand, after those before it; `next` is the reading of the symbols after it. The
 -- first thing found wrong ends the reading, at the number of the symbol in hand: what its chips say

@@ -4,7 +4,7 @@
 -- or wrap, and no sum overflows. The stepping receiver's push names `followed` and `keptAt`: of a
 -- forged record that passes its test they are all that is said.
 use mathlib.Core.Path.{_≡_}
-use mathlib.Core.Bool.{Bool, not}
+use mathlib.Core.Bool.{Bool, false, not}
 use Prim.Native.Nat.{ℕ, _+_, _-_, _*_, _/_, _%_, _^_, _≤_}
 use mathlib.Core.List.{List}
 use lib.ListN.{set}
@@ -12,6 +12,7 @@ use lib.Dec.{eqb, leb, ltb}
 use Rattle.codes.specs.Numbers.{DONE, BADMODE, NOROOM, PREAMBLE, MORE}
 use Rattle.codes.specs.Chips.{pick}
 use Rattle.codes.specs.Radio.{Radio, known, radioOf}
+use Rattle.codes.specs.Symbol.{lesser, NOGAP}
 use Rattle.codes.specs.declared.Symbol.{Symbol}
 use Rattle.frame.specs.Frame.{perOctet}
 use Rattle.order.specs.declared.Hand.{Hand}
@@ -19,12 +20,12 @@ use Rattle.order.specs.Order.{both, ends, rules}
 
 -- before the first symbol
 abbrev pub begun : Hand
-begun = record { number = MORE; taken = 0; length = 0; count = 0; last = 0; octet = 0 }
+begun = record { number = MORE; taken = 0; length = 0; count = 0; last = 0; octet = 0; gap = NOGAP }
 
 -- ended with a number, all else as it was
 abbrev pub stopped : ℕ → Hand → Hand
 stopped x h =
-    record { number = x; taken = h .taken; length = h .length; count = h .count; last = h .last; octet = h .octet }
+    record { number = x; taken = h .taken; length = h .length; count = h .count; last = h .last; octet = h .octet; gap = h .gap }
 
 -- the raw symbol of a value, after a last one; of the numbers of a radio's row, and of a radio
 abbrev pub rawBy : Bool → ℕ → ℕ → ℕ → ℕ
@@ -48,35 +49,47 @@ lengthAfter per s n octet = pick (ends per 5 s) (octet % 128) n
 abbrev pub preambled : ℕ → ℕ → ℕ → ℕ
 preambled per s raw = pick (both (ltb s (4 * per)) (not (eqb raw 0))) PREAMBLE MORE
 
--- one symbol more, with its number, n, distance, value and octet
-abbrev pub moved : Hand → ℕ → ℕ → ℕ → ℕ → ℕ → Hand
-moved h x n d v octet =
-    record { number = x; taken = (h .taken + 1) % 2 ^ 32; length = n; count = (h .count + d) % 2 ^ 32; last = v; octet = octet }
+-- a symbol's gap, of numbers of 32 bits that wrap
+abbrev pub gapAt : Symbol → ℕ
+gapAt x = (x .next + 2 ^ 32 - x .distance % 2 ^ 32) % 2 ^ 32
+
+-- the symbol x more, with a number, n and the octet in hand
+abbrev pub moved : Hand → ℕ → ℕ → Symbol → ℕ → Hand
+moved h number n x octet =
+    record {
+      number = number;
+      taken = (h .taken + 1) % 2 ^ 32;
+      length = n;
+      count = (h .count + x .distance) % 2 ^ 32;
+      last = x .value;
+      octet = octet;
+      gap = lesser (gapAt x) (h .gap);
+    }
 
 -- the first where the number is no refusal, 13 or 0, else the second
 abbrev pub onward : {A : Type 0} → ℕ → A → A → A
 onward x a b = pick (eqb x MORE) a (pick (eqb x DONE) a b)
 
 -- moved or stopped, by the rules with room for every report
-abbrev pub byRules : ℕ → Hand → ℕ → ℕ → ℕ → ℕ → ℕ → Hand
-byRules per h raw octet n d v =
-    onward (rules per 127 (h .taken) raw octet n) (moved h (rules per 127 (h .taken) raw octet n) n d v octet)
+abbrev pub byRules : ℕ → Hand → ℕ → ℕ → ℕ → Symbol → Hand
+byRules per h raw octet n x =
+    onward (rules per 127 (h .taken) raw octet n) (moved h (rules per 127 (h .taken) raw octet n) n x octet)
     (stopped (rules per 127 (h .taken) raw octet n) h)
 
 -- the same, over the raw symbol alone
-abbrev pub byRaw : Radio → Hand → ℕ → ℕ → ℕ → Hand
-byRaw r h raw d v =
-    byRules (perOctet r) h raw (shifted r (h .octet) raw) (lengthAfter (perOctet r) (h .taken) (h .length) (shifted r (h .octet) raw)) d v
+abbrev pub byRaw : Radio → Hand → ℕ → Symbol → Hand
+byRaw r h raw x =
+    byRules (perOctet r) h raw (shifted r (h .octet) raw) (lengthAfter (perOctet r) (h .taken) (h .length) (shifted r (h .octet) raw)) x
 
--- a symbol's value and distance taken
-unfoldable pub advanced : Radio → Hand → ℕ → ℕ → Hand
-advanced r h v d = byRaw r h (rawFrom r (h .last) v) d v
+-- a symbol taken
+unfoldable pub advanced : Radio → Hand → Symbol → Hand
+advanced r h x = byRaw r h (rawFrom r (h .last) (x .value)) x
 
 -- what follows a match
 unfoldable pub followed : ℕ → Hand → Symbol → Hand
 followed mode h x =
     pick (known mode)
-    (pick (eqb (x .number) DONE) (advanced (radioOf mode) h (x .value) (x .distance)) (stopped (x .number) h))
+    (pick (eqb (x .number) DONE) (advanced (radioOf mode) h x) (stopped (x .number) h))
     (stopped BADMODE h)
 
 -- a report buffer shorter than n
@@ -86,6 +99,10 @@ roomed room h next = pick (ltb room (next .length)) (stopped NOROOM h) next
 -- within an octet, there is room for what n says
 abbrev pub Roomy : ℕ → ℕ → Hand → Type 0
 Roomy mode room h = (h .taken % perOctet (radioOf mode) ≡ 0 → ⊥) → h .length ≤ room
+
+-- so many symbols are whole octets
+unfoldable pub wholeAt : ℕ → Hand → Bool
+wholeAt mode h = pick (known mode) (eqb (h .taken % perOctet (radioOf mode)) 0) false
 
 -- the octets of the report, with the one in hand where it is whole and one of them
 abbrev pub keptIn : ℕ → Hand → List ℕ → List ℕ

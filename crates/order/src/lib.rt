@@ -8,10 +8,11 @@ ghost use mathlib.Core.Bool.{true};
 ghost use Prim.Native.Nat.{_≤_, _<_, _%_};
 ghost use lib.Dec.{eqb};
 ghost use Rattle.order.specs.Order.{ends, rules};
-ghost use Rattle.order.specs.Taking.{begun, stopped, rawBy, shiftedBy, lengthAfter, preambled, moved, onward, followed, keptAt};
+ghost use Rattle.order.specs.Taking.{begun, stopped, rawBy, shiftedBy, lengthAfter, preambled, moved, onward, followed, wholeAt, keptAt};
 
 // What is carried from symbol to symbol: 13 while more is wanted, else 0 or the refusal; symbols
-// taken; n once it is read, 0 before; chips repaired; the last symbol's value; the octet in hand.
+// taken; n once it is read, 0 before; chips repaired; the last symbol's value; the octet in hand;
+// the smallest gap.
 pub struct Hand {
     pub number: u32,
     pub taken: u32,
@@ -19,6 +20,7 @@ pub struct Hand {
     pub count: u32,
     pub last: u32,
     pub octet: u32,
+    pub gap: u32,
 }
 
 // Before the first symbol.
@@ -32,6 +34,7 @@ pub fn begin() -> Hand
         count: 0,
         last: 0,
         octet: 0,
+        gap: codes::NOGAP,
     }
 }
 
@@ -46,6 +49,7 @@ pub fn stop(number: u32, hand: Hand) -> Hand
         count: hand.count,
         last: hand.last,
         octet: hand.octet,
+        gap: hand.gap,
     }
 }
 
@@ -89,10 +93,14 @@ fn whole(per: usize, symbols: usize) -> bool
 
 // One symbol more, unless the number is a refusal.
 fn advance(hand: Hand, number: u32, length: u32, symbol: codes::Symbol, octet: u32) -> Hand
-    ensures { λ r. ⌜ r ≡ onward number (moved hand number length (symbol .distance) (symbol .value) octet) (stopped number hand) ⌝ }
+    ensures { λ r. ⌜ r ≡ onward number (moved hand number length symbol octet) (stopped number hand) ⌝ }
 {
     if number != codes::MORE && number != codes::DONE {
         return stop(number, hand);
+    }
+    let mut gap = std::num::wrapping_sub_u32(symbol.next, symbol.distance);
+    if hand.gap <= gap {
+        gap = hand.gap;
     }
     Hand {
         number,
@@ -101,6 +109,7 @@ fn advance(hand: Hand, number: u32, length: u32, symbol: codes::Symbol, octet: u
         count: std::num::wrapping_add_u32(hand.count, symbol.distance),
         last: symbol.value,
         octet,
+        gap,
     }
 }
 
@@ -163,6 +172,17 @@ fn octet_rules(per: usize, taken: u32, octet: u32, n: u32) -> u32
         return codes::DONE;
     }
     codes::MORE
+}
+
+// Whether the symbols taken are whole octets. Where they aren't, `keep` changes nothing.
+pub fn whole_octets(mode: u32, hand: Hand) -> bool
+    ensures { λ r. ⌜ r ≡ wholeAt mode hand ⌝ }
+{
+    let phy = codes::phy_of(mode);
+    if phy.size == 0 {
+        return false;
+    }
+    whole(phy.per, hand.taken as usize)
 }
 
 // Keeps the octet in hand where it is whole and one of the report's; after a refusal, which took no

@@ -9,10 +9,11 @@ use lib.Dec.{eqb, ltb}
 use borrow.Author.Tests.{eqb-false}
 use Rattle.codes.specs.declared.Symbol.{Symbol}
 use Rattle.codes.specs.Numbers.{DONE, BADMODE, NOROOM, RUNOUT, NOCHIP, LOST, PREAMBLE, BADSTART, MORE}
-use Rattle.codes.specs.Chips.{bad, among}
+use Rattle.codes.specs.Chips.{among}
 use Rattle.codes.specs.Radio.{Radio, known, radioOf}
-use Rattle.codes.specs.Symbol.{valued, symbolOf}
+use Rattle.codes.specs.Symbol.{symbolOf}
 use Rattle.codes.proofs.Tests.{by-pick, not-both}
+use Rattle.codes.proofs.Unique.{symbol-numbers}
 use Rattle.frame.specs.Frame.{startOctet, perOctet}
 use Rattle.order.specs.Order.{Answer, refused, done, both, ends, rules, values, verdict, concluded, taking, readingFrom, reading, whole}
 use Rattle.reader.specs.Read.{answerAt}
@@ -25,16 +26,12 @@ refusals = NOROOM ∷ RUNOUT ∷ NOCHIP ∷ LOST ∷ PREAMBLE ∷ BADSTART ∷ [
 -- an answer is done, or refuses with one of these
 abbrev pub Fair : Answer → Type 0
 Fair (refused x place) = among x refusals ≡ true
-Fair (done place report count) = Unit {0}
+Fair (done place report count gap) = Unit {0}
 
 -- a symbol that isn't read
 symbol-fair : (r : Radio) (w : List ℕ) → (symbolOf r w .number ≡ DONE → ⊥) → among (symbolOf r w .number) refusals ≡ true
-unfolding symbolOf valued
 symbol-fair r w =
-    by-pick P (bad w) _ _ (λ _ n. refl) (λ _. by-pick P (ltb _ (length (r .words))) _ _ (λ _ n. absurd (n refl)) (λ _ n. refl))
-  where
-    P : Symbol → Type 0
-    P z = (z .number ≡ DONE → ⊥) → among (z .number) refusals ≡ true
+    symbol-numbers r w (λ x. (x ≡ DONE → ⊥) → among x refusals ≡ true) (λ n. refl) (λ n. refl) (λ n. absurd (n refl))
 
 -- a rule that ends the reading without success
 rules-fair : (per room s raw start n : ℕ) → (rules per room s raw start n ≡ MORE → ⊥) → (rules per room s raw start n ≡ DONE → ⊥)
@@ -55,14 +52,14 @@ module _ (r : Radio) (room : ℕ) (P : Answer → Type 0) (out : (s : ℕ) → P
     (unread : (s : ℕ) (w : List ℕ) → (symbolOf r w .number ≡ DONE → ⊥) → P (refused (symbolOf r w .number) s))
     (refusing : (s raw start n : ℕ) → (rules (perOctet r) room s raw start n ≡ MORE → ⊥) → (rules (perOctet r) room s raw start n ≡ DONE → ⊥)
     → P (refused (rules (perOctet r) room s raw start n) s))
-    (well : (place : ℕ) (report : List ℕ) (count : ℕ) → P (done place report count)) where
+    (well : (place : ℕ) (report : List ℕ) (count gap : ℕ) → P (done place report count gap)) where
   -- a symbol in hand, where what follows it is so
   taking-ways : (before : List Symbol) (w : List ℕ) (next : Answer) → P next → P (taking r room before (symbolOf r w) next)
   unfolding taking concluded
   taking-ways before w next f =
       by-pick P (eqb (symbolOf r w .number) DONE) _ _
       (λ _. by-pick P (eqb x MORE) _ _ (λ _. f)
-      (λ m. by-pick P (eqb x DONE) _ _ (λ _. well _ _ _) (λ d. refusing (length before) _ _ _ (eqb-false x MORE m) (eqb-false x DONE d))))
+      (λ m. by-pick P (eqb x DONE) _ _ (λ _. well _ _ _ _) (λ d. refusing (length before) _ _ _ (eqb-false x MORE m) (eqb-false x DONE d))))
       (λ n. unread (length before) w (eqb-false (symbolOf r w .number) DONE n))
     where
       x : ℕ
@@ -80,7 +77,7 @@ module _ (r : Radio) (room : ℕ) (P : Answer → Type 0) (out : (s : ℕ) → P
 -- the reading of a whole buffer
 pub answer-fair : (r : Radio) (room : ℕ) (chips : List ℕ) → Fair (reading r room chips)
 answer-fair r room =
-    reading-ways r room Fair (λ s. refl) (λ s w. symbol-fair r w) (λ s raw start n. rules-fair (perOctet r) room s raw start n) (λ place report count. tt)
+    reading-ways r room Fair (λ s. refl) (λ s w. symbol-fair r w) (λ s raw start n. rules-fair (perOctet r) room s raw start n) (λ place report count gap. tt)
 
 -- done is none of these numbers
 pub done-unfair : (x : ℕ) → x ≡ DONE → among x refusals ≡ true → ⊥
@@ -89,7 +86,7 @@ done-unfair x z f = not-both false (rw z at f) refl
 -- an answer of the reader, whatever the mode, is done or refuses with another number
 abbrev pub Told : Answer → Type 0
 Told (refused x place) = x ≡ DONE → ⊥
-Told (done place report count) = Unit {0}
+Told (done place report count gap) = Unit {0}
 
 pub answer-told : (mode room : ℕ) (chips : List ℕ) → Told (answerAt mode room chips)
 unfolding answerAt
@@ -98,4 +95,4 @@ answer-told mode room chips =
   where
     go : (a : Answer) → Fair a → Told a
     go (refused x place) f = λ z. done-unfair x z f
-    go (done place report count) f = tt
+    go (done place report count gap) f = tt

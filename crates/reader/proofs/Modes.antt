@@ -22,16 +22,20 @@ use Rattle.reader.specs.Telling.{Tells}
 use Rattle.order.proofs.Raw.{size-pos}
 use Rattle.order.proofs.Steps.{followed-stops, kept-stops}
 use Rattle.order.proofs.Carried.{Carries}
-use Rattle.order.proofs.Turns.{Open, Turned, next-hand, room-for-any}
+use Rattle.order.proofs.Turns.{Small, Open, Turned, next-hand, room-for-any}
 use Rattle.reader.proofs.Sofar.{Sofar, Ways, symbol-taken}
 use Rattle.reader.proofs.Scanning.{Scanning, Turning, scan-starts, scan-out, scan-bad, turned-scan}
 
-low : (mode : ℕ) → radioOf mode .limit ≤ 255
-low mode = leb-true _ _ (row-test (λ r. leb (r .limit) 255) refl mode)
+small : (mode : ℕ) → Small (radioOf mode)
+small mode =
+    record {
+      low = leb-true _ _ (row-test (λ r. leb (r .limit) 255) refl mode);
+      short = leb-true _ _ (row-test (λ r. leb (r .size) 255) refl mode);
+    }
 
 -- `followed` is what the test of room, with room for every report, leaves as it is
 followed-is : (mode : ℕ) → known mode ≡ true → (h : Hand) (x : Symbol) → h .length ≤ 127
-    → followed mode h x ≡ roomed 127 h (pick (eqb (x .number) DONE) (advanced (radioOf mode) h (x .value) (x .distance)) (stopped (x .number) h))
+    → followed mode h x ≡ roomed 127 h (pick (eqb (x .number) DONE) (advanced (radioOf mode) h x) (stopped (x .number) h))
 unfolding followed
 followed-is mode m h x l = rw m (sym (room-for-any (radioOf mode) h x l))
 
@@ -41,7 +45,7 @@ pub followed-turned : (mode : ℕ) → known mode ≡ true → (before : List Sy
     → Turned (radioOf mode) 127 before (symbolOf (radioOf mode) w) (followed mode h (symbolOf (radioOf mode) w))
 followed-turned mode m before h C O w =
     let x = symbolOf (radioOf mode) w in
-    next-hand (radioOf mode) (sound mode) (low mode) 127 before h C O w x refl (followed mode h x) (followed-is mode m h x (O .few))
+    next-hand (radioOf mode) (sound mode) (small mode) 127 before h C O w x refl (followed mode h x) (followed-is mode m h x (O .few))
 
 -- one symbol more of a list of windows
 pub symbol-followed : (mode : ℕ) → known mode ≡ true → (ws : List (List ℕ)) (octets : List ℕ) (h : Hand)
@@ -50,7 +54,7 @@ pub symbol-followed : (mode : ℕ) → known mode ≡ true → (ws : List (List 
 unfolding keptAt
 symbol-followed mode m ws octets h L next g e =
     let x = symbolOf (radioOf mode) (getD ws (h .taken) []) in
-    symbol-taken (radioOf mode) (sound mode) 127 ws octets h L next (low mode) x
+    symbol-taken (radioOf mode) (sound mode) 127 ws octets h L next (small mode) x
     refl g (e ∙ followed-is mode m h x (L .goes .few)) (keptAt mode g octets) (rw m)
 
 pub size-positive : (mode size : ℕ) → size ≡ radioOf mode .size → 0 < size
@@ -87,7 +91,7 @@ module _ (mode : ℕ) (m : known mode ≡ true) (room : ℕ) (chips : List ℕ) 
           unfolding followed keptAt
           turns =
               let way = turned-scan (radioOf mode) (sound mode) room chips octets h at L (rw is at l)
-              (low mode) _ (ap (symbolOf (radioOf mode)) part-is) g (eg ∙ ap (roomed room h) (ef ∙ rw m)) kept (ek ∙ rw m) in
+              (small mode) _ (ap (symbolOf (radioOf mode)) part-is) g (eg ∙ ap (roomed room h) (ef ∙ rw m)) kept (ek ∙ rw m) in
               (λ n. rw is (way .0 n), way .1)
 
         -- where it is refused, the hand stays as it was but for the number

@@ -20,6 +20,7 @@ use Rattle.order.specs.Taking.{begun, stopped, advanced, onward, roomed, keptIn
 use Rattle.reader.specs.Telling.{Tells}
 use Rattle.order.proofs.Raw.{size-pos}
 use Rattle.order.proofs.Windows.{window-next, window-is, window-out}
+use Rattle.order.proofs.Turns.{Small}
 use Rattle.reader.proofs.Sofar.{Sofar, starts, out, bad-window, symbol-taken}
 
 pub record Scanning (r : Radio) (room : ℕ) (chips octets : List ℕ) (h : Hand) (at : ℕ) : Type 0 where
@@ -53,13 +54,13 @@ module _ (r : Radio) (S : Sound r) (room : ℕ) (chips octets : List ℕ) (h : H
     scan-bad b = bad-window r S room (whole r chips) octets h (L .sofar) next (rw is-window at b)
 
     -- the hand after a turn, and the octets with it
-    module _ (low : r .limit ≤ 255) (y : Symbol) (i : y ≡ symbolOf r (take (r .size) (drop at chips))) (g : Hand)
-        (e : g ≡ roomed room h (pick (eqb (y .number) DONE) (advanced r h (y .value) (y .distance)) (stopped (y .number) h)))
+    module _ (small : Small r) (y : Symbol) (i : y ≡ symbolOf r (take (r .size) (drop at chips))) (g : Hand)
+        (e : g ≡ roomed room h (pick (eqb (y .number) DONE) (advanced r h y) (stopped (y .number) h)))
         (kept : List ℕ) (k : kept ≡ onward (g .number) (keptIn (perOctet r) g octets) octets) where
       pub turned-scan : Turning r room chips kept g (at + r .size)
       unfolding reading
       turned-scan =
-          let way = symbol-taken r S room (whole r chips) octets h (L .sofar) next low y (i ∙ ap (symbolOf r) is-window) g e kept k in (
+          let way = symbol-taken r S room (whole r chips) octets h (L .sofar) next small y (i ∙ ap (symbolOf r) is-window) g e kept k in (
             λ m.
                 let w = way .0 m in
                 record { sofar = w .1; place = rw (w .0) (omega (arith, suc-mul (h .taken) (r .size), L .place)); upto = omega (arith, L .upto) },

@@ -28,7 +28,7 @@ use Rattle.reader.specs.Telling.{handed, Tells}
 use Rattle.order.proofs.Windows.{seen, seen-front, seen-next, rest, rest-more, rest-out}
 use Rattle.order.proofs.Steps.{goes}
 use Rattle.order.proofs.Carried.{Carries, carries-none}
-use Rattle.order.proofs.Turns.{Open, open-begun, On, Over, Off, Turned, next-hand}
+use Rattle.order.proofs.Turns.{Small, Open, open-begun, On, Over, Off, Turned, next-hand}
 use Rattle.order.proofs.Gathered.{Gathered, kept-long, gathered-none, gathered-more, gathered-report}
 
 -- after s symbols
@@ -61,7 +61,7 @@ module _ (h : Hand) (octets : List ℕ) where
   unfolding handed
   handed-refused m d = rw (ne-eqb (h .number) MORE m, ne-eqb (h .number) DONE d)
 
-  pub handed-done : h .number ≡ DONE → handed h octets ≡ done (h .taken) (take (h .length) octets) (h .count)
+  pub handed-done : h .number ≡ DONE → handed h octets ≡ done (h .taken) (take (h .length) octets) (h .count) (h .gap)
   unfolding handed
   handed-done e = rw (ne-eqb (h .number) MORE (λ m. omega arith), eq-eqb (h .number) DONE e)
 
@@ -104,11 +104,11 @@ module _ (r : Radio) (S : Sound r) (room : ℕ) (ws : List (List ℕ)) (octets :
         }
 
     -- the hand after its symbol, and the octets with it
-    module _ (low : r .limit ≤ 255) (y : Symbol) (i : y ≡ x) (g : Hand)
-        (e : g ≡ roomed room h (pick (eqb (y .number) DONE) (advanced r h (y .value) (y .distance)) (stopped (y .number) h)))
+    module _ (small : Small r) (y : Symbol) (i : y ≡ x) (g : Hand)
+        (e : g ≡ roomed room h (pick (eqb (y .number) DONE) (advanced r h y) (stopped (y .number) h)))
         (kept : List ℕ) (k : kept ≡ onward (g .number) (keptIn (perOctet r) g octets) octets) where
       way : Turned r room before x g
-      way = next-hand r S low room before h (L .carries) (L .goes) (getD ws (h .taken) []) x refl g (rw i at e)
+      way = next-hand r S small room before h (L .carries) (L .goes) (getD ws (h .taken) []) x refl g (rw i at e)
 
       long-kept : length kept ≡ 127
       long-kept =
@@ -145,13 +145,13 @@ module _ (r : Radio) (S : Sound r) (room : ℕ) (ws : List (List ℕ)) (octets :
           ∙ ap (λ (j : ℕ). octetsFrom r 6 j bits) n in
           record {
             is = step ∙ o .same (rest r ws room (suc (h .taken)))
-                ∙ done-same (sym (t ∙ a)) (sym s) (sym (o .carries .count)) ∙ sym (handed-done g kept (o .number));
+                ∙ done-same (sym (t ∙ a)) (sym s) (sym (o .carries .count)) (sym (o .carries .gap (omega (arith, a)))) ∙ sym (handed-done g kept (o .number));
             well = λ d. o .all;
             long = long-kept;
           }
         where
-          done-same : {p q : ℕ} {a b : List ℕ} {c d : ℕ} → p ≡ q → a ≡ b → c ≡ d → done p a c ≡ done q b d
-          done-same u v w = rw (u, v, w)
+          done-same : {p q : ℕ} {a b : List ℕ} {c d e f : ℕ} → p ≡ q → a ≡ b → c ≡ d → e ≡ f → done p a c e ≡ done q b d f
+          done-same u v w x = rw (u, v, w, x)
 
       off : Off r room before x g → Tells r room answer kept g
       off o =

@@ -14,7 +14,7 @@ use Rattle.order.specs.declared.Hand.{Hand}
 use Rattle.order.specs.Order.{Answer, refused, done}
 use Rattle.order.specs.Taking.{Complete}
 use Rattle.reader.specs.declared.Reading.{Reading}
-use Rattle.reader.specs.Read.{told}
+use Rattle.reader.specs.Read.{reported, told}
 
 -- the first n octets over the first n bytes of a buffer, as it was where there are not so many
 -- of both
@@ -25,14 +25,14 @@ storedIn n octets buffer = pick (ltb 127 n) buffer (pick (ltb (length buffer) n)
 unfoldable pub toldBy : Hand → Reading
 toldBy h =
     pick (eqb (h .number) MORE) (told (refused RUNOUT (h .taken)))
-    (pick (eqb (h .number) DONE) (record { number = DONE; place = h .taken; n = h .length; count = h .count })
+    (pick (eqb (h .number) DONE) (reported (h .taken) (h .length) (h .count) (h .gap))
     (told (refused (h .number) (h .taken))))
 
 -- and as the reading order's answer, with the octets gathered
 unfoldable pub handed : Hand → List ℕ → Answer
 handed h octets =
     pick (eqb (h .number) MORE) (refused RUNOUT (h .taken))
-    (pick (eqb (h .number) DONE) (done (h .taken) (take (h .length) octets) (h .count)) (refused (h .number) (h .taken)))
+    (pick (eqb (h .number) DONE) (done (h .taken) (take (h .length) octets) (h .count) (h .gap)) (refused (h .number) (h .taken)))
 
 -- the hand and the octets gathered tell the answer
 pub record Tells (r : Radio) (room : ℕ) (answer : Answer) (octets : List ℕ) (h : Hand) : Type 0 where

@@ -13,14 +13,16 @@ ghost use Rattle.order.specs.Taking.{followed, roomed, Roomy, keptAt};
 ghost use Rattle.reader.specs.Read.{told, readOf};
 ghost use Rattle.reader.specs.Telling.{storedIn, toldBy, Tells};
 
-// What the reader gives back: 0, the number of symbols in the frame, the report's length and the
-// number of chips repaired; or a refusal, the number of the symbol where it stands, 0 and 0.
+// What the reader gives back: 0, the number of symbols in the frame, the report's length, the number
+// of chips repaired and the smallest gap of the frame's symbols; or a refusal, the number of the
+// symbol where it stands, and zeros.
 #[repr(C)]
 pub struct Reading {
     pub number: u32,
     pub place: u32,
     pub n: u32,
     pub count: u32,
+    pub gap: u32,
 }
 
 // Reads the frame of the mode's radio that the chips begin with, and stores its report. The octets
@@ -154,10 +156,11 @@ fn tell(hand: order::Hand) -> Reading
         place: hand.taken,
         n: hand.length,
         count: hand.count,
+        gap: hand.gap,
     }
 }
 
-// What a refusal gives back: n and count are 0.
+// What a refusal gives back: n, count and gap are 0.
 pub fn refusal(number: u32, place: u32) -> Reading
     ensures { λ r. ⌜ r ≡ told (refused number place) ⌝ }
 {
@@ -166,6 +169,7 @@ pub fn refusal(number: u32, place: u32) -> Reading
         place,
         n: 0,
         count: 0,
+        gap: 0,
     }
 }
 

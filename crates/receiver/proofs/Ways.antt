@@ -12,7 +12,8 @@ use borrow.Author.Tests.{lt-ltb, le-ltb, le-leb, lt-leb, eq-eqb, ne-eqb, eqb-tru
 use Rattle.codes.specs.Numbers.{DONE, BADMODE, NOROOM, RUNOUT, ENDED, BADPART, NOTENDED, MORE, FORGED}
 use Rattle.codes.specs.Chips.{pick}
 use Rattle.codes.specs.Radio.{known, radioOf}
-use Rattle.codes.specs.Symbol.{symbolOf}
+use Rattle.codes.specs.Symbol.{symbolOf, matchOf}
+use Rattle.codes.specs.Symbol as codes
 use Rattle.codes.specs.Phy.{phyOf, noPhy, phyAt}
 use Rattle.codes.specs.declared.Phy.{Phy}
 use Rattle.codes.specs.declared.Symbol.{Symbol}
@@ -20,12 +21,13 @@ use Rattle.codes.proofs.Tests.{by-test, not-both}
 use Rattle.codes.proofs.Modes.{row-test}
 use Rattle.frame.specs.Frame.{perOctet}
 use Rattle.frame.specs.Outcome.{outcome}
-use Rattle.frame.proofs.Modes.{row-size}
+use Rattle.codes.proofs.Unique.{symbol-numbers}
 use Rattle.order.specs.declared.Hand.{Hand}
 use Rattle.reader.specs.declared.Reading.{Reading}
 use Rattle.order.specs.Order.{Answer, refused, done}
-use Rattle.reader.specs.Read.{told, left}
-use Rattle.order.specs.Taking.{followed, keptAt}
+use Rattle.reader.specs.Read.{reported, told, left}
+use Rattle.order.specs.Taking.{followed, wholeAt, keptAt}
+use Rattle.order.proofs.Steps.{kept-partial}
 use Rattle.reader.specs.Telling.{storedIn}
 use Rattle.reader.proofs.Told.{stored, stored-none}
 use Rattle.receiver.specs.declared.Receiver.{Receiver}
@@ -134,30 +136,40 @@ module _ (c : Receiver) (part : List ℕ) where
     unfolding pushOf
     push-ended m = rw (f, ne-eqb (c .ended) MORE m)
 
-    module _ (o : c .ended ≡ MORE) (p : Phy) (e : p ≡ phyAt (c .mode)) where
-      size-is : p .size ≡ radioOf (c .mode) .size
-      size-is = row-size (c .mode) (passed-known c f (inl o)) p e
+    -- a part that is matched in the record's mode
+    module _ (o : c .ended ≡ MORE) (x : Symbol) (e : x ≡ matchOf (c .mode) part) where
+      matched : x ≡ pick (eqb (length part) (radioOf (c .mode) .size)) (symbolOf (radioOf (c .mode)) part) (codes.refused BADPART)
+      unfolding matchOf
+      matched = e ∙ rw (passed-known c f (inl o))
 
-      pub push-part : (length part ≡ p .size → ⊥) → step BADPART c ≡ pushOf c part
+      pub push-part : x .number ≡ BADPART → step BADPART c ≡ pushOf c part
       unfolding pushOf
-      push-part n = rw (f, eq-eqb (c .ended) MORE o, ← size-is, ne-eqb (length part) (p .size) n)
+      push-part n =
+          by-test (eqb (length part) (radioOf (c .mode) .size))
+          (λ t.
+          let q : x ≡ symbolOf (radioOf (c .mode)) part = matched ∙ rw t in
+          absurd (symbol-numbers (radioOf (c .mode)) part (λ y. y ≡ BADPART → ⊥) (λ e. omega (arith, e)) (λ e. omega (arith, e)) (λ e. omega (arith, e))
+          (sym (ap (λ (y : Symbol). y .number) q) ∙ n)))
+          (λ t. rw (f, eq-eqb (c .ended) MORE o, t))
 
-      module _ (l : length part ≡ p .size) where
-        -- the part is one symbol
-        pub part-whole : (known (c .mode) ≡ true) × (length part ≡ radioOf (c .mode) .size)
-        part-whole = (passed-known c f (inl o), l ∙ size-is)
+      pub push-symbol : (x .number ≡ BADPART → ⊥) → tookSymbol c x ≡ pushOf c part
+      unfolding pushOf
+      push-symbol n =
+          by-test (eqb (length part) (radioOf (c .mode) .size))
+          (λ t. let q : x ≡ symbolOf (radioOf (c .mode)) part = matched ∙ rw t in rw (f, eq-eqb (c .ended) MORE o, t, q))
+          (λ t. let q : x ≡ codes.refused BADPART = matched ∙ rw t in absurd (n (ap (λ (y : Symbol). y .number) q)))
 
-        pub push-symbol : tookSymbol c (symbolOf (radioOf (c .mode)) part) ≡ pushOf c part
-        unfolding pushOf
-        push-symbol = rw (f, eq-eqb (c .ended) MORE o, eq-eqb (length part) (radioOf (c .mode) .size) (part-whole .1))
-
--- the way of `follow`
+-- the ways of `follow`
 pub took : (c : Receiver) (x : Symbol) (h next : Hand) (octets : List ℕ) → h ≡ handOf c
     → next ≡ followed (c .mode) h x → octets ≡ keptAt (c .mode) next (c .octets)
     → step (next .number) (held (c .mode) next octets) ≡ tookSymbol c x
 took c x h next octets eh en eo =
     ap (λ (l : List ℕ). step (next .number) (held (c .mode) next l)) eo
     ∙ ap (λ (z : Hand). withHand c z) (en ∙ ap (λ (z : Hand). followed (c .mode) z x) eh)
+
+pub took-inside : (c : Receiver) (x : Symbol) (h next : Hand) → h ≡ handOf c → next ≡ followed (c .mode) h x → wholeAt (c .mode) next ≡ false
+    → step (next .number) (held (c .mode) next (c .octets)) ≡ tookSymbol c x
+took-inside c x h next eh en w = took c x h next (c .octets) eh en (kept-partial (c .mode) next (c .octets) w)
 
 -- the ways of `finish`
 module _ (c : Receiver) where
@@ -194,7 +206,7 @@ module _ (c : Receiver) (room : ℕ) where
       report-long : length (take (c .length) (c .octets)) ≡ c .length
       report-long = length-take-le (c .length) (c .octets) (omega (arith, passed-length c f (inr d)))
 
-      takes-well : takes c room ≡ roomFor room (done (c .taken) (take (c .length) (c .octets)) (c .count))
+      takes-well : takes c room ≡ roomFor room (done (c .taken) (take (c .length) (c .octets)) (c .count) (c .gap))
       unfolding takes
       takes-well = rw (f, d)
 
@@ -202,14 +214,14 @@ module _ (c : Receiver) (room : ℕ) where
       unfolding roomFor
       takes-short s = sym (takes-well ∙ rw (report-long, lt-ltb room (c .length) s))
 
-      pub takes-done : c .length ≤ room → done (c .taken) (take (c .length) (c .octets)) (c .count) ≡ takes c room
+      pub takes-done : c .length ≤ room → done (c .taken) (take (c .length) (c .octets)) (c .count) (c .gap) ≡ takes c room
       unfolding roomFor
       takes-done s = sym (takes-well ∙ rw (report-long, le-ltb room (c .length) s))
 
-      pub tells-done : c .length ≤ room → record { number = DONE; place = c .taken; n = c .length; count = c .count } ≡ told (takes c room)
+      pub tells-done : c .length ≤ room → reported (c .taken) (c .length) (c .count) (c .gap) ≡ told (takes c room)
       unfolding told
       tells-done s =
-          ap (λ (i : ℕ). record { number = DONE; place = c .taken; n = i; count = c .count }) (sym report-long) ∙ ap told (takes-done s)
+          ap (λ (i : ℕ). reported (c .taken) i (c .count) (c .gap)) (sym report-long) ∙ ap told (takes-done s)
 
 -- the way of `take`: nothing is stored but a report, for which there is room
 module _ (c : Receiver) (buffer : List ℕ) (l : length (c .octets) ≡ 127) where
@@ -220,7 +232,7 @@ module _ (c : Receiver) (buffer : List ℕ) (l : length (c .octets) ≡ 127) whe
   unfolding told left
   stores-none x place = stored-none (c .octets) buffer l
 
-  stores-report : c .length ≤ 127 → c .length ≤ length buffer → Stores (done (c .taken) (take (c .length) (c .octets)) (c .count))
+  stores-report : c .length ≤ 127 → c .length ≤ length buffer → Stores (done (c .taken) (take (c .length) (c .octets)) (c .count) (c .gap))
   unfolding told left
   stores-report m s =
       ap (λ (i : ℕ). storedIn i (c .octets) buffer) (length-take-le (c .length) (c .octets) (omega arith)) ∙ stored (c .length) (c .octets) buffer m l s

@@ -11,7 +11,7 @@ use lib.Dec.{eqb, ltb}
 use Rattle.codes.specs.Numbers.{DONE, BADMODE, NOROOM, RUNOUT, ENDED, BADPART, NOTENDED, MORE, FORGED}
 use Rattle.codes.specs.Chips.{pick}
 use Rattle.codes.specs.Radio.{known, radioOf}
-use Rattle.codes.specs.Symbol.{symbolOf}
+use Rattle.codes.specs.Symbol.{symbolOf, NOGAP}
 use Rattle.codes.specs.declared.Symbol.{Symbol}
 use Rattle.frame.specs.Outcome.{Outcome}
 use Rattle.frame.specs.Frame.{perOctet}
@@ -29,10 +29,11 @@ step x c = record { number = x; receiver = c }
 
 -- ---- start
 
--- before the first symbol: all 0 but the mode and the number
+-- before the first symbol: all 0 but the mode, the number and the smallest gap, for which stands
+-- a number above every gap
 abbrev pub fresh : ℕ → ℕ → Receiver
 fresh mode x =
-    record { mode = mode; ended = x; taken = 0; length = 0; count = 0; last = 0; octet = 0; octets = replicate 127 0 }
+    record { mode = mode; ended = x; taken = 0; length = 0; count = 0; last = 0; octet = 0; gap = NOGAP; octets = replicate 127 0 }
 
 -- Start gives a record for a mode and 13. A bad mode gives a record already ended with 1, place 0.
 unfoldable pub startOf : ℕ → Step
@@ -69,12 +70,22 @@ forged c =
 
 -- the numbers that the reader carries too
 abbrev pub handOf : Receiver → Hand
-handOf c = record { number = c .ended; taken = c .taken; length = c .length; count = c .count; last = c .last; octet = c .octet }
+handOf c = record { number = c .ended; taken = c .taken; length = c .length; count = c .count; last = c .last; octet = c .octet; gap = c .gap }
 
 -- the record of a mode with these numbers and octets
 abbrev pub held : ℕ → Hand → List ℕ → Receiver
 held mode h octets =
-    record { mode = mode; ended = h .number; taken = h .taken; length = h .length; count = h .count; last = h .last; octet = h .octet; octets = octets }
+    record {
+      mode = mode;
+      ended = h .number;
+      taken = h .taken;
+      length = h .length;
+      count = h .count;
+      last = h .last;
+      octet = h .octet;
+      gap = h .gap;
+      octets = octets;
+    }
 
 -- the record after the hand h, with the octet that it completes
 abbrev pub withHand : Receiver → Hand → Step
@@ -98,7 +109,17 @@ pushOf c part =
 -- the record ended with a number, all else as it was
 abbrev pub endedWith : ℕ → Receiver → Receiver
 endedWith x c =
-    record { mode = c .mode; ended = x; taken = c .taken; length = c .length; count = c .count; last = c .last; octet = c .octet; octets = c .octets }
+    record {
+      mode = c .mode;
+      ended = x;
+      taken = c .taken;
+      length = c .length;
+      count = c .count;
+      last = c .last;
+      octet = c .octet;
+      gap = c .gap;
+      octets = c .octets;
+    }
 
 -- Finish ends an open record with 4, at the number of the next symbol; on an ended one it answers
 -- 10 and the record stays the same.
@@ -109,18 +130,19 @@ finishOf c =
 -- ---- take
 
 -- 3 where the lent buffer is shorter than n, with the frame's place; otherwise 0 with place, n,
--- count and the report.
+-- count, gap and the report.
 unfoldable pub roomFor : ℕ → Answer → Answer
 roomFor room (refused x place) = refused x place
-roomFor room (done place report count) = pick (ltb room (length report)) (refused NOROOM place) (done place report count)
+roomFor room (done place report count gap) = pick (ltb room (length report)) (refused NOROOM place) (done place report count gap)
 
 -- Take, on an open record: 12, with place, n and count 0. On one ended by a refusal: that number
--- and place, n and count 0. On one ended well: the report, where there is room.
+-- and place, n and count 0. On one ended well: the report, where there is room, with the gap as it
+-- is held. The gap of all else is 0.
 unfoldable pub takes : Receiver → ℕ → Answer
 takes c room =
     pick (forged c) (refused FORGED 0)
     (pick (isOpen c) (refused NOTENDED 0)
-    (pick (endedWell c) (roomFor room (done (c .taken) (take (c .length) (c .octets)) (c .count)))
+    (pick (endedWell c) (roomFor room (done (c .taken) (take (c .length) (c .octets)) (c .count) (c .gap)))
     (refused (c .ended) (c .taken))))
 
 -- what take gives back, and the lent buffer at exit, unchanged on anything but done

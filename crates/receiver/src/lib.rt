@@ -1,17 +1,12 @@
 // The stepping receiver: the reader's reading, one symbol at a call. The record goes into each call
 // and comes back from it; it holds up to 127 octets itself. Its fields are numbers, so every bit
-// pattern is a record, and each call says what it makes of it. A part's chips are gathered in a
-// loop of push's own, under the law of the reader's (`codes`, proofs/Gathering.antt); its symbol is
-// taken by the reader's own functions, so the laws of the reader's loop carry over
-// (proofs/Stepping.antt).
+// pattern is a record, and each call says what it makes of it. A part is matched by itself (the room
+// `matching`), and its symbol is taken by the reader's own functions, so the laws of the reader's
+// loop carry over (proofs/Stepping.antt).
 ghost use mathlib.Core.Path.{_≡_};
-ghost use mathlib.Core.Bool.{true};
-ghost use lib.ListN.{length};
-ghost use Rattle.codes.specs.Radio.{known, radioOf};
-ghost use Rattle.codes.specs.Symbol.{symbolOf};
 ghost use Rattle.frame.specs.Outcome.{outcome};
 ghost use Rattle.reader.specs.Read.{told};
-ghost use Rattle.receiver.specs.Record.{step, fresh, startOf, forged, handOf, tookSymbol, pushOf, finishOf, takes, takeOf};
+ghost use Rattle.receiver.specs.Record.{step, fresh, startOf, forged, handOf, held, tookSymbol, pushOf, finishOf, takes, takeOf};
 
 // What a receiver is between two calls, in the order of the C interface.
 #[repr(C)]
@@ -30,6 +25,8 @@ pub struct Receiver {
     pub last: u32,
     // the octet in hand
     pub octet: u32,
+    // the smallest gap of the symbols so far
+    pub gap: u32,
     // the report's octets so far
     pub octets: [u8; 127],
 }
@@ -64,10 +61,11 @@ impl Receiver {
         if self.ended != codes::MORE {
             return self.answer(codes::ENDED);
         }
-        if part.len() != codes::phy_of(self.mode).size {
+        let symbol = matching::match_part(self.mode, part);
+        if symbol.number == codes::BADPART {
             return self.answer(codes::BADPART);
         }
-        self.follow(read_by_mode(self.mode, part))
+        self.follow(symbol)
     }
 
     // No more symbols: an open record ends with 4. 34 and 10 give the record back as it was.
@@ -135,11 +133,16 @@ impl Receiver {
         }
     }
 
-    // A symbol taken by the reader's steps.
+    // A symbol taken by the reader's steps, on the record's numbers alone. The record itself is
+    // copied once: as it is, with its numbers set; or, where an octet may have become whole, around
+    // a copy of its octets with that one kept.
     fn follow(self, symbol: codes::Symbol) -> Step
         ensures { λ r. ⌜ r ≡ tookSymbol self symbol ⌝ }
     {
         let hand = order::follow(self.mode, self.hand(), symbol);
+        if !order::whole_octets(self.mode, hand) {
+            return self.with_numbers(hand);
+        }
         let mut octets = self.octets;
         order::keep(self.mode, hand, &mut octets);
         Step {
@@ -152,8 +155,27 @@ impl Receiver {
                 count: hand.count,
                 last: hand.last,
                 octet: hand.octet,
+                gap: hand.gap,
                 octets,
             },
+        }
+    }
+
+    // The record with these numbers, its octets as they were.
+    fn with_numbers(self, hand: order::Hand) -> Step
+        ensures { λ r. ⌜ r ≡ step (hand .number) (held (self .mode) hand (self .octets)) ⌝ }
+    {
+        let mut receiver = self;
+        receiver.ended = hand.number;
+        receiver.taken = hand.taken;
+        receiver.length = hand.length;
+        receiver.count = hand.count;
+        receiver.last = hand.last;
+        receiver.octet = hand.octet;
+        receiver.gap = hand.gap;
+        Step {
+            number: hand.number,
+            receiver,
         }
     }
 
@@ -168,6 +190,7 @@ impl Receiver {
             count: self.count,
             last: self.last,
             octet: self.octet,
+            gap: self.gap,
         }
     }
 
@@ -192,49 +215,12 @@ impl Receiver {
             place: self.taken,
             n: self.length,
             count: self.count,
+            gap: self.gap,
         }
     }
 }
 
-// Each mode's loop is made by itself, of constants. What a mode without a radio would get is 1.
-fn read_by_mode(mode: u32, part: &[u8]) -> codes::Symbol
-    requires { ⌜ (known mode ≡ true) × (length (now part) ≡ radioOf mode .size) ⌝ }
-    ensures { λ r. ⌜ r ≡ symbolOf (radioOf mode) (now (part .entry)) ⌝ }
-{
-    if mode == 0 {
-        return read_part(0, part);
-    }
-    if mode == 1 {
-        return read_part(1, part);
-    }
-    if mode == 2 {
-        return read_part(2, part);
-    }
-    matching::judge(mode, 0)
-}
-
-// The symbol of a part that is one symbol long: gathered and matched as the reader does it.
-fn read_part(mode: u32, part: &[u8]) -> codes::Symbol
-    requires { ⌜ (known mode ≡ true) × (length (now part) ≡ radioOf mode .size) ⌝ }
-    ensures { λ r. ⌜ r ≡ symbolOf (radioOf mode) (now (part .entry)) ⌝ }
-{
-    let mut bits: u64 = 0;
-    let mut k: usize = 0;
-    while k < codes::EIGHTS {
-        bits = codes::gather(mode, part, k, bits);
-        if bits == codes::NOEIGHT {
-            return codes::Symbol {
-                number: codes::NOCHIP,
-                value: 0,
-                distance: 0,
-            };
-        }
-        k += 1;
-    }
-    matching::judge(mode, matching::nearest(mode, bits))
-}
-
-// All 0 but the mode and the number.
+// All 0 but the mode, the number and the smallest gap, which no gap is as large as yet.
 fn begin(mode: u32, number: u32) -> Step
     ensures { λ r. ⌜ r ≡ step number (fresh mode number) ⌝ }
 {
@@ -248,6 +234,7 @@ fn begin(mode: u32, number: u32) -> Step
             count: 0,
             last: 0,
             octet: 0,
+            gap: codes::NOGAP,
             octets: [0u8; 127],
         },
     }

@@ -79,7 +79,7 @@ fn write(checked: bool, mode: u32, report: &[u8], chips: &mut [u8]) -> frame::Wr
     if checked {
         checked::write(mode, report, chips)
     } else {
-        frame::write(mode, report, chips)
+        writer::write(mode, report, chips)
     }
 }
 

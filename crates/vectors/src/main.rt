@@ -63,7 +63,7 @@ fn write_line(mode: u32, report: &[u8], octets: usize, chips: &mut [u8], room: u
     if chips.len() < room {
         return;
     }
-    let written = frame::write(mode, &report[0..octets], &mut chips[0..room]);
+    let written = writer::write(mode, &report[0..octets], &mut chips[0..room]);
     number(mode as u64, b' ');
     number(octets as u64, b' ');
     number(room as u64, b' ');
@@ -72,7 +72,7 @@ fn write_line(mode: u32, report: &[u8], octets: usize, chips: &mut [u8], room: u
 }
 
 // The first so many chips read with room for 127 octets: prints mode, chips, number, place,
-// n, count.
+// n, count, gap.
 fn read_line(mode: u32, chips: &[u8], count: usize) {
     if chips.len() < count {
         return;
@@ -84,7 +84,8 @@ fn read_line(mode: u32, chips: &[u8], count: usize) {
     number(reading.number as u64, b' ');
     number(reading.place as u64, b' ');
     number(reading.n as u64, b' ');
-    number(reading.count as u64, b'\n');
+    number(reading.count as u64, b' ');
+    number(reading.gap as u64, b'\n');
 }
 
 // A number, and the byte after it.
@@ -96,7 +97,7 @@ fn number(n: u64, after: u8) {
 
 // The whole frame of a report, a digit a chip.
 fn whole_frame(mode: u32, report: &[u8], chips: &mut [u8]) {
-    let written = frame::write(mode, report, chips);
+    let written = writer::write(mode, report, chips);
     let count = written.chips as usize;
     digits(&chips[..count]);
     io::write_all(STDOUT_FILENO, b"\n");

@@ -1,4 +1,4 @@
--- `line` meets its contract: five entries, each behind those before it (Text.antt), of what the
+-- `line` meets its contract: six entries, each behind those before it (Text.antt), of what the
 -- reader promises. Assumes nothing.
 use mathlib.Core.Path.{ap, _∙_}
 use mathlib.Core.List.{_++_}
@@ -8,7 +8,7 @@ use borrow.Author.Needs.{needs}
 use Rattle.frame.specs.Outcome.{Outcome}
 use Rattle.reader.specs.declared.Reading.{Reading}
 use Rattle.bench.specs.Lines.{line}
-use Rattle.bench.proofs.Text.{five}
+use Rattle.bench.proofs.Text.{six}
 use Rattle.bench.proofs.line.Statement.{statement}
 use Rattle.bench.proofs.line.Tie as tie
 
@@ -33,12 +33,16 @@ put-requires-4 c κs = search needs
 put-requires-5 : tie.Need-put-requires-5
 put-requires-5 c κs = search needs
 
+put-requires-6 : tie.Need-put-requires-6
+put-requires-6 c κs = search needs
+
 same-length : tie.Need-same-length
 same-length c = search needs
 
 returns : tie.Need-returns
 returns c =
-    let fifth = c .before .before in
+    let sixth = c .before .before in
+    let fifth = sixth .before .before .before .before in
     let fourth = fifth .before .before .before .before in
     let third = fourth .before .before .before .before in
     let second = third .before .before .before .before in
@@ -46,8 +50,9 @@ returns c =
     let read = first .before .before .before in
     let s = read .before .before .before .before in (
       omega arith,
-      five (take (s .args .at) (s .args .text .now)) _ _ _ _ _ _ _ _ _ _
+      six (take (s .args .at) (s .args .text .now)) _ _ _ _ _ _ _ _ _ _ _ _
           (first .put .ensures .1) (second .put2 .ensures .1) (third .put3 .ensures .1) (fourth .put4 .ensures .1) (fifth .put5 .ensures .1)
+          (sixth .put6 .ensures .1)
           ∙ ap (λ (o : Outcome Reading). take (s .args .at) (s .args .text .now) ++ line (s .args .mode) (o .answer)) (read .read .ensures),
     )
 
@@ -62,5 +67,6 @@ line-spec =
     put-requires-3
     put-requires-4
     put-requires-5
+    put-requires-6
     same-length
     returns)

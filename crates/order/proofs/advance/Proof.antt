@@ -1,10 +1,12 @@
 -- `advance` meets its contract: its tests are the definition's. Assumes nothing.
-use mathlib.Core.Path.{sym, _∙_}
+use mathlib.Core.Path.{_≡_, sym, ap, _∙_}
 use mathlib.Core.Logic.{inl, inr, ⊎-elim}
-use Rattle.order.specs.Taking.{stopped}
-use Rattle.order.proofs.Steps.{goes, stops}
+use Prim.Native.Nat.{ℕ}
+use Rattle.codes.specs.Symbol.{lesser}
+use Rattle.order.specs.Taking.{stopped, gapAt}
+use Rattle.order.proofs.Steps.{goes, stops, sub-gap}
 use borrow.Author.Needs.{needs}
-use borrow.Author.Tests.{eqb-true, eqb-false, not-true, not-false}
+use borrow.Author.Tests.{eqb-true, eqb-false, not-true, not-false, lt-ltb, le-ltb}
 use Rattle.codes.specs.Numbers.{DONE}
 use Rattle.order.proofs.advance.Statement.{statement}
 use Rattle.order.proofs.advance.Tie as tie
@@ -17,6 +19,9 @@ returns c = let a = c .before .before .before .args in
     c .stop .ensures ∙ sym (stops (a .number) _ (stopped (a .number) (a .hand))
     (c .before .before .if1 .taken) (eqb-false (a .number) DONE (not-true _ (c .before .if2 .taken))))
 
+wrapping-sub-u32-requires : tie.Need-wrapping-sub-u32-requires
+wrapping-sub-u32-requires c κs = search needs
+
 wrapping-add-u32-requires : tie.Need-wrapping-add-u32-requires
 wrapping-add-u32-requires c κs = search needs
 
@@ -24,10 +29,19 @@ wrapping-add-u32-requires-2 : tie.Need-wrapping-add-u32-requires-2
 wrapping-add-u32-requires-2 c κs = search needs
 
 returns-2 : tie.Need-returns-2
-returns-2 c = let a = c .before .before .before .args in
-    rw (c .before .wrapping-add-u32 .ensures, c .wrapping-add-u322 .ensures)
+returns-2 c =
+    let j = c .before .before in
+    let s = j .before .before in
+    let t = s .before in
+    let a = t .before .args in
+    let d : s .wrapping-sub-u32 .result ≡ gapAt (a .symbol) = sub-gap (a .symbol) _ (search needs) (s .wrapping-sub-u32 .ensures) in
+    let g : j .if3 .gap ≡ lesser (gapAt (a .symbol)) (a .hand .gap) = ⊎-elim
+    (λ w. w .1 ∙ rw (← d, le-ltb _ _ (w .0 .taken)))
+    (λ w. w .1 ∙ rw (← d, lt-ltb _ _ (w .0 .left)))
+    (j .if3 .came) in
+    rw (g, c .before .wrapping-add-u32 .ensures, c .wrapping-add-u322 .ensures)
     (sym (goes (a .number) _ (stopped (a .number) (a .hand))
-    (⊎-elim (λ w. inr (eqb-true (a .number) DONE (not-false _ (w .1 .left)))) (λ w. inl (w .left)) (c .before .before .if1 .came))))
+    (⊎-elim (λ w. inr (eqb-true (a .number) DONE (not-false _ (w .1 .left)))) (λ w. inl (w .left)) (t .if1 .came))))
 
 pub advance-spec : {M : Type 1} → statement M
 advance-spec =
@@ -35,6 +49,7 @@ advance-spec =
     (tie.spec
     stop-requires
     returns
+    wrapping-sub-u32-requires
     wrapping-add-u32-requires
     wrapping-add-u32-requires-2
     returns-2)

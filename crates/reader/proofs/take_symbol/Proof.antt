@@ -1,6 +1,6 @@
 -- `take_symbol` meets its contract: a radio a branch. Assumes nothing.
 use mathlib.Core.Path.{ap, _∙_}
-use Rattle.matching.specs.Near.{judgedAt}
+use Rattle.matching.specs.Judged.{judgedAt}
 use Rattle.codes.proofs.Modes.{unknown}
 use Rattle.matching.proofs.Judging.{near-symbol}
 use Rattle.order.specs.Taking.{followed}

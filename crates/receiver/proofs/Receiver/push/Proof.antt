@@ -1,8 +1,6 @@
 -- `push` meets its contract: a law for each of its ways (Ways.antt). Assumes nothing.
-use mathlib.Core.Path.{sym, ap, _∙_}
-use Rattle.codes.specs.declared.Symbol.{Symbol}
-use Rattle.receiver.specs.Record.{tookSymbol}
-use Rattle.receiver.proofs.Ways.{push-forged, push-ended, push-part, part-whole, push-symbol}
+use mathlib.Core.Path.{sym, _∙_}
+use Rattle.receiver.proofs.Ways.{push-forged, push-ended, push-part, push-symbol}
 use borrow.Author.Needs.{needs}
 use Rattle.receiver.proofs.Receiver.push.Statement.{statement}
 use Rattle.receiver.proofs.Receiver.push.Tie as tie
@@ -26,8 +24,8 @@ returns-2 c = let f = c .before .before .before .before in
     ∙ push-ended (f .before .before .args .self) (f .before .before .args .part .now)
     (sym (f .forged .ensures) ∙ c .before .before .before .if1 .left) (c .before .if2 .taken)
 
-phy-of-requires : tie.Need-phy-of-requires
-phy-of-requires c κs = search needs
+match-part-requires : tie.Need-match-part-requires
+match-part-requires c κs = search needs
 
 answer-requires-3 : tie.Need-answer-requires-3
 answer-requires-3 c κs = search needs
@@ -37,26 +35,18 @@ returns-3 c = let f = c .before .before .before .before .before .before .before 
     c .answer3 .ensures
     ∙ push-part (f .before .before .args .self) (f .before .before .args .part .now)
     (sym (f .forged .ensures) ∙ c .before .before .before .before .before .before .if1 .left)
-    (c .before .before .before .before .if2 .left) _ (c .before .before .before .phy-of .ensures) (c .before .if3 .taken)
-
-read-by-mode-requires : tie.Need-read-by-mode-requires
-read-by-mode-requires c κs =
-    let f = c .before .before .before .before .before .before in
-    let a = f .before .before .args in
-    part-whole (a .self) (a .part .now) (sym (f .forged .ensures) ∙ c .before .before .before .before .before .if1 .left)
-    (c .before .before .before .if2 .left) _ (c .before .before .phy-of .ensures) (c .if3 .left)
+    (c .before .before .before .before .if2 .left) _ (c .before .before .before .match-part .ensures) (c .before .if3 .taken)
 
 follow-requires : tie.Need-follow-requires
 follow-requires c κs = search needs
 
 returns-4 : tie.Need-returns-4
 returns-4 c =
-    let f = c .before .before .before .before .before .before .before .before in
+    let f = c .before .before .before .before .before .before .before in
     let a = f .before .before .args in
     c .follow .ensures
-    ∙ ap (λ (x : Symbol). tookSymbol (a .self) x) (c .before .read-by-mode .ensures)
-    ∙ push-symbol (a .self) (a .part .now) (sym (f .forged .ensures) ∙ c .before .before .before .before .before .before .before .if1 .left)
-    (c .before .before .before .before .before .if2 .left) _ (c .before .before .before .before .phy-of .ensures) (c .before .before .if3 .left)
+    ∙ push-symbol (a .self) (a .part .now) (sym (f .forged .ensures) ∙ c .before .before .before .before .before .before .if1 .left)
+    (c .before .before .before .before .if2 .left) _ (c .before .before .before .match-part .ensures) (c .before .if3 .left)
 
 pub push-spec : {M : Type 1} → statement M
 push-spec =
@@ -67,9 +57,8 @@ push-spec =
     returns
     answer-requires-2
     returns-2
-    phy-of-requires
+    match-part-requires
     answer-requires-3
     returns-3
-    read-by-mode-requires
     follow-requires
     returns-4)
