@@ -1,18 +1,22 @@
 -- How close it was: the gap of chips near a frame is at least the least distance of two words less
 -- twice the limit; that of a frame itself, followed by anything, is the least distance of two
 -- words; and one wrong chip put right does not lower it. For every sound radio. In numbers: at
--- least 3, 2 and 2 in modes 0, 1 and 2, and 15, 12 and 6 as written. Assumes nothing.
+-- least 3, 2 and 2 in modes 0, 1 and 2, and 15, 12 and 6 as written; in mode 0 it tells the wrong
+-- chips. Assumes nothing.
 use mathlib.Core.Path.{_≡_, refl, sym, ap, _∙_}
 use mathlib.Core.List.{List, _++_}
-use Prim.Native.Nat.{ℕ, zero, suc, _-_, _*_, _≤_, _<_}
+use mathlib.Core.Bool.{false}
+use Prim.Native.Nat.{ℕ, zero, suc, _+_, _-_, _*_, _≤_, _<_}
 use native.Mathlib.Omega.{arith}
 use native.Mathlib.Nat.{le-antisymm}
 use lib.ListN.{length, getD, set}
 use lib.Seq.{take-length, take-append-seam}
-use Rattle.codes.specs.Chips.{distance}
-use Rattle.codes.specs.Radio.{Radio, Sound, word, radioOf}
-use Rattle.codes.specs.Symbol.{Spaced}
-use Rattle.codes.proofs.Facts.{spaced-bpsk, spaced-oqpsk, spaced-lowband}
+use Rattle.codes.specs.Chips.{distance, bad}
+use Rattle.codes.specs.Radio.{Radio, Sound, word, radioOf, bpsk, bpskWords}
+use Rattle.codes.specs.Symbol.{nearest, nearestWord, Spaced}
+use Rattle.codes.proofs.Chips.{distance-both}
+use Rattle.codes.proofs.Leasts.{nearest-at, but-at}
+use Rattle.codes.proofs.Facts.{bpsk-words, sound-bpsk, spaced-bpsk, spaced-oqpsk, spaced-lowband}
 use Rattle.codes.proofs.Gap.{ahead, ahead-is, ahead-least, ahead-between}
 use Rattle.frame.specs.Frame.{symbols, symbolsWith, frameWith}
 use Rattle.frame.proofs.Count.{frame-size, symbols-same}
@@ -88,6 +92,29 @@ module _ (r : Radio) (S : Sound r) (report frame : List ℕ) (B : Bit r report f
           ap (windowGap r) e
           ∙ ahead-is r S (getD vs j 0) (known j h) w (S .sized (getD vs j 0) (known j h)) (omega (arith, z))
           ∙ omega (arith, z, spaced (getD vs j 0) (known j h))
+
+-- In mode 0 the next-nearest word is the other one, so that the gap of fifteen chips is fifteen less
+-- twice the nearest word's distance.
+pub bpsk-gap : (w : List ℕ) → length w ≡ 15 → bad w ≡ false → windowGap bpsk w ≡ 15 - 2 * nearest bpsk w
+unfolding bpskWords
+bpsk-gap w l b =
+    let v = nearestWord bpsk w in
+    let a = nearest-at bpsk w (omega arith) in
+    let t = but-at bpsk w v (a .0) (omega arith) in
+    omega (arith, a .1, t .3, both v (t .0) (a .0) (t .1) (t .2))
+  where
+    all : distance w (word bpsk 0) + distance w (word bpsk 1) ≡ 15
+    all =
+        distance-both w (word bpsk 0) (word bpsk 1) b (sound-bpsk .chips 0 (omega arith)) (sound-bpsk .chips 1 (omega arith)) l refl (bpsk-words .0) ∙ l
+
+    both : (v u : ℕ) → v < 2 → u < 2 → (u ≡ v → ⊥) → distance w (word bpsk v) + distance w (word bpsk u) ≡ 15
+    both zero zero h j n = absurd (n refl)
+    both zero (suc zero) h j n = all
+    both zero (suc (suc u)) h j n = absurd (omega arith)
+    both (suc zero) zero h j n = omega (arith, all)
+    both (suc zero) (suc zero) h j n = absurd (n refl)
+    both (suc zero) (suc (suc u)) h j n = absurd (omega arith)
+    both (suc (suc v)) u h j n = absurd (omega arith)
 
 -- the least distance of two words of a mode's radio
 pub spaced : (mode : ℕ) → Spaced (radioOf mode) (apartIn mode)
