@@ -26,6 +26,7 @@ pub empty-report : linesOf (frame oqpsk []) ≡
     50 ∷ 32 ∷ 54 ∷ 32 ∷ 48 ∷ 32 ∷ 48 ∷ 32 ∷ 48 ∷ 32 ∷ 48 ∷ 10 ∷ []
 unfolding distance bad bpskWords oqpskWord oqpskWords lowbandWord lowbandWords turnedWords turns turned oddInverted
     least first nearest nearestWord nearestBut symbolOf
-    digits raws encode symbolsWith chipsOf frameWith decode valueOf octetsFrom windows rules repaired smallestGap concluded taking readingFrom reading told answerAt
+    digits raws encode symbolsWith chipsOf frameWith decode valueOf octetsFrom windows rules repaired smallestGap
+    concluded taking readingFrom reading told answerAt
     decimalIn
 empty-report = refl

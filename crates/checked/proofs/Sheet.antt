@@ -59,7 +59,8 @@ pub read-sheet : (readInto (0 ∷ 0 ∷ []) (7 ∷ 7 ∷ []) ≡ refusal 14 16 (
     × (readInto (0x02 ∷ 0x00 ∷ 0x6A ∷ 0xE4 ∷ 0x79 ∷ []) (7 ∷ 7 ∷ 7 ∷ 7 ∷ 7 ∷ 9 ∷ [])
     ≡ outcome (record { number = 0; place = 22; n = 5; count = 0; gap = 6 }) (0x02 ∷ 0x00 ∷ 0x6A ∷ 0xE4 ∷ 0x79 ∷ 9 ∷ []))
 unfolding distance bad lowbandWord lowbandWords turnedWords turns turned oddInverted least first nearest nearestWord nearestBut symbolOf digits raws
-    encode symbolsWith chipsOf frameWith decode valueOf octetsFrom windows rules repaired smallestGap concluded taking readingFrom reading told left answerAt checkOf
+    encode symbolsWith chipsOf frameWith decode valueOf octetsFrom windows rules repaired smallestGap concluded taking
+    readingFrom reading told left answerAt checkOf
     checkedAnswer allZero fcsOf registerAfter entered bits
 read-sheet = (refl, refl, refl, refl, refl)
 
@@ -69,6 +70,7 @@ pub reserved-sheet : (readWith 1 (0x02 ∷ 0x00 ∷ 0x6A ∷ 0xE4 ∷ 0x79 ∷ [
     ≡ outcome (record { number = 0; place = 22; n = 5; count = 0; gap = 6 }) (0x02 ∷ 0x00 ∷ 0x6A ∷ 0xE4 ∷ 0x79 ∷ 9 ∷ []))
     × (readWith 1 (0x02 ∷ 0x00 ∷ 0x6A ∷ 0xE4 ∷ 0x79 ∷ []) (7 ∷ 7 ∷ 7 ∷ 7 ∷ []) ≡ refusal 3 11 (7 ∷ 7 ∷ 7 ∷ 7 ∷ []))
 unfolding distance bad lowbandWord lowbandWords turnedWords turns turned oddInverted least first nearest nearestWord nearestBut symbolOf digits raws
-    encode symbolsWith chipsOf frameWith decode valueOf octetsFrom windows rules repaired smallestGap concluded taking readingFrom reading told left answerAt checkOf
+    encode symbolsWith chipsOf frameWith decode valueOf octetsFrom windows rules repaired smallestGap concluded taking
+    readingFrom reading told left answerAt checkOf
     checkedAnswer allZero fcsOf registerAfter entered bits
 reserved-sheet = (refl, refl)

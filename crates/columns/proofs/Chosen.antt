@@ -25,8 +25,8 @@ use Rattle.columns.proofs.Words.{Columned, part, evenAt, oddAt, oqpskEv
 use Rattle.columns.proofs.Words.{columned-oqpsk, columned-lowband, apart-is, apart-le, parted-few}
 use Rattle.codes.proofs.Facts.{sound-oqpsk, sound-lowband}
 
--- the keys of a radio whose words have columns tell the nearest word and the next, where the numbers
--- are the even chips laid, and the odd
+-- the keys of a radio whose words have columns tell the nearest word and the next, where the
+-- numbers are the even chips laid, and the odd
 module _ (r : Radio) (S : Sound r) (n : ℕ) (few : n ≤ 16) (even odd : ℕ → ℕ) (p q : ℕ)
     (C : Columned r n even odd (turnedPair p) (turnedPair q)) (bits : ℕ) where
   abbrev symbol : List ℕ

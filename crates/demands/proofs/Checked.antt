@@ -144,7 +144,8 @@ check-done octets p = (
 
 -- Done exactly when the plain reader is, with a report that passes.
 pub checked-done : (mode : ℕ) (chips buffer report : List ℕ) (count gap : ℕ)
-    → (readCheckedOf mode chips buffer ≡ success mode buffer report count gap) ↔ ((readOf mode chips buffer ≡ success mode buffer report count gap) × Passes report)
+    → (readCheckedOf mode chips buffer ≡ success mode buffer report count gap)
+    ↔ ((readOf mode chips buffer ≡ success mode buffer report count gap) × Passes report)
 checked-done mode chips buffer report count gap = (
   λ o.
       let p = told-checked mode buffer report count gap (answerAt mode (length buffer) chips) (answer-told mode (length buffer) chips) o in

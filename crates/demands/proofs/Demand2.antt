@@ -1,6 +1,7 @@
 -- Demand 2. With room, each frame of a report of at most 127 octets, followed by anything, reads
 -- back as that report with count 0, for every sound radio. And in a mode that has a radio: what the
--- writer wrote, the reader reads, with the least distance of two words as its gap. And a report's two frames are two. Assumes nothing.
+-- writer wrote, the reader reads, with the least distance of two words as its gap. And a report's
+-- two frames are two. Assumes nothing.
 use mathlib.Core.Path.{_≡_, refl, sym, ap, _∙_, subst}
 use mathlib.Core.Logic.{inl}
 use mathlib.Core.Bool.{true, false}

@@ -93,8 +93,8 @@ module _ (r : Radio) (S : Sound r) (report frame : List ℕ) (B : Bit r report f
           ∙ ahead-is r S (getD vs j 0) (known j h) w (S .sized (getD vs j 0) (known j h)) (omega (arith, z))
           ∙ omega (arith, z, spaced (getD vs j 0) (known j h))
 
--- In mode 0 the next-nearest word is the other one, so that the gap of fifteen chips is fifteen less
--- twice the nearest word's distance.
+-- In mode 0 the next-nearest word is the other one, so that the gap of fifteen chips is fifteen
+-- less twice the nearest word's distance.
 pub bpsk-gap : (w : List ℕ) → length w ≡ 15 → bad w ≡ false → windowGap bpsk w ≡ 15 - 2 * nearest bpsk w
 unfolding bpskWords
 bpsk-gap w l b =

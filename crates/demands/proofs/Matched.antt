@@ -57,7 +57,8 @@ module _ (mode : ℕ) (part : List ℕ) where
       -- Of chips the answer is 0 where the nearest word is within the limit, else 6, and says which
       -- it is and how far, and how far the next-nearest other word is.
       pub match-says : bad part ≡ false
-          → (matchOf mode part .number ≡ pick (leb (matchOf mode part .distance) (radioOf mode .limit)) DONE LOST) × Says (radioOf mode) part (matchOf mode part)
+          → (matchOf mode part .number ≡ pick (leb (matchOf mode part .distance) (radioOf mode .limit)) DONE LOST)
+          × Says (radioOf mode) part (matchOf mode part)
       unfolding symbolOf
       match-says b =
           let r = radioOf mode in

@@ -104,7 +104,8 @@ module _ (mode : ℕ) (k : known mode ≡ true) (chips buffer report : List ℕ)
       → (c g : ℕ) × (count ≡ suc c) × (gap ≤ g) × (readOf mode (set chips i (getD frame i 0)) buffer ≡ success mode buffer report c g)
   reads-put-right frame m near i h w =
       let n = put-right (radioOf mode) (sound mode) (length buffer) chips report count answers frame m near i h w in
-      (n .0, frameGap (radioOf mode) (set chips i (getD frame i 0)) report, n .1, rw reads-gap (n .3), success-answers mode k (set chips i (getD frame i 0)) buffer report (n .0) .1 (n .2))
+      let others = set chips i (getD frame i 0) in
+      (n .0, frameGap (radioOf mode) others report, n .1, rw reads-gap (n .3), success-answers mode k others buffer report (n .0) .1 (n .2))
 
   -- No symbol of its frame is all 0 or all 1.
   pub reads-no-flat : (s : ℕ) → s < length (symbols (radioOf mode) report) → (c : ℕ) → c ≤ 1
@@ -124,7 +125,8 @@ module _ (mode : ℕ) (k : known mode ≡ true) (chips buffer : List ℕ) where
       go (refused x place) q f n = absurd (done-unfair x n f)
       go (done place report count gap) q f n =
           let a = answers-done (radioOf mode) (sound mode) (length buffer) chips report count place gap q in
-          (report, count, frameGap (radioOf mode) chips report, answer-room (radioOf mode) (sound mode) (length buffer) chips report count a, success-answers mode k chips buffer report count .1 a)
+          let room = answer-room (radioOf mode) (sound mode) (length buffer) chips report count a in
+          (report, count, frameGap (radioOf mode) chips report, room, success-answers mode k chips buffer report count .1 a)
 
 -- A report read into one buffer with room is read into any other with room, with the same answer.
 pub other-buffer : (mode : ℕ) → known mode ≡ true → (chips b c report : List ℕ) (count gap : ℕ) → length report ≤ length b → length report ≤ length c

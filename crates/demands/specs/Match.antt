@@ -8,9 +8,9 @@ use Rattle.codes.specs.Chips.{distance}
 use Rattle.codes.specs.Radio.{Radio, word}
 use Rattle.codes.specs.declared.Symbol.{Symbol}
 
--- The word is a word of the radio, at that distance; none is nearer, and none with a lower number as
--- near. Every other word is at least as far as the next-nearest is said to be, and one of them just
--- so far.
+-- The word is a word of the radio, at that distance; none is nearer, and none with a lower number
+-- as near. Every other word is at least as far as the next-nearest is said to be, and one of them
+-- just so far.
 pub record Says (r : Radio) (chips : List ℕ) (x : Symbol) : Type 0 where
   pub known : x .value < length (r .words)
   pub apart : x .distance ≡ distance chips (word r (x .value))

@@ -89,7 +89,8 @@ lost-flat r x z o (suc zero) h = o
 lost-flat r x z o (suc (suc c)) h = absurd (omega arith)
 
 pub bench : BenchSheet
-unfolding distance bad least first nearest nearestWord nearestBut symbolOf bpskWords oqpskWords turnedWords turns turned oddInverted oqpskWord digits raws encode symbolsWith
+unfolding distance bad least first nearest nearestWord nearestBut symbolOf bpskWords oqpskWords turnedWords turns turned oddInverted oqpskWord
+    digits raws encode symbolsWith
 bench =
     record {
       A = refl;
@@ -107,7 +108,8 @@ bench =
     }
 
 pub lowband-bench : LowbandSheet
-unfolding distance bad least first nearest nearestWord nearestBut symbolOf lowbandWords turnedWords turns turned oddInverted lowbandWord digits raws encode symbolsWith
+unfolding distance bad least first nearest nearestWord nearestBut symbolOf lowbandWords turnedWords turns turned oddInverted lowbandWord
+    digits raws encode symbolsWith
 lowband-bench =
     record {
       A = refl;

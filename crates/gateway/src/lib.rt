@@ -1,7 +1,7 @@
 // The functions that C calls, with the names, parameters and structs of include/lernazhup.h. Each
 // is one call of a function below it and promises what that one does, so there is nothing more to
-// prove. The structs are those of `codes`, `frame`, `reader` and `receiver`, laid out as C lays them
-// out.
+// prove. The structs are those of `codes`, `frame`, `reader` and `receiver`, laid out as C lays
+// them out.
 ghost use mathlib.Core.Path.{_≡_};
 ghost use Rattle.codes.specs.Symbol.{matchOf};
 ghost use Rattle.frame.specs.Outcome.{outcome};

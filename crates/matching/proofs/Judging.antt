@@ -1,4 +1,5 @@
--- What `judge` makes of what `nearest` gives is the symbol of the bits. Once over the radio. Assumes nothing.
+-- What `judge` makes of what `nearest` gives is the symbol of the bits. Once over the radio.
+-- Assumes nothing.
 use mathlib.Core.Path.{_≡_, refl}
 use mathlib.Core.Bool.{false}
 use mathlib.Core.List.{List}

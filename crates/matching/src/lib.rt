@@ -1,7 +1,7 @@
-// Matching: the word nearest to a symbol's gathered chips, the next-nearest, and the symbol that they
-// say. How far the words are is counted on the bits (fifteen.rt, and the room `columns`). The nearest word and
-// both distances are the definition's own, so that what is made of them is the symbol
-// (proofs/Judging.antt).
+// Matching: the word nearest to a symbol's gathered chips, the next-nearest, and the symbol that
+// they say. How far the words are is counted on the bits (fifteen.rt, and the room `columns`). The
+// nearest word and both distances are the definition's own, so that what is made of them is the
+// symbol (proofs/Judging.antt).
 ghost use mathlib.Core.Path.{_≡_};
 ghost use mathlib.Core.Bool.{true};
 ghost use lib.ListN.{length};

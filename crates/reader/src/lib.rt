@@ -13,9 +13,9 @@ ghost use Rattle.order.specs.Taking.{followed, roomed, Roomy, keptAt};
 ghost use Rattle.reader.specs.Read.{told, readOf};
 ghost use Rattle.reader.specs.Telling.{storedIn, toldBy, Tells};
 
-// What the reader gives back: 0, the number of symbols in the frame, the report's length, the number
-// of chips repaired and the smallest gap of the frame's symbols; or a refusal, the number of the
-// symbol where it stands, and zeros.
+// What the reader gives back: 0, the number of symbols in the frame, the report's length, the
+// number of chips repaired and the smallest gap of the frame's symbols; or a refusal, the number of
+// the symbol where it stands, and zeros.
 #[repr(C)]
 pub struct Reading {
     pub number: u32,

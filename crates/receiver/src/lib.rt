@@ -1,8 +1,8 @@
 // The stepping receiver: the reader's reading, one symbol at a call. The record goes into each call
 // and comes back from it; it holds up to 127 octets itself. Its fields are numbers, so every bit
-// pattern is a record, and each call says what it makes of it. A part is matched by itself (the room
-// `matching`), and its symbol is taken by the reader's own functions, so the laws of the reader's
-// loop carry over (proofs/Stepping.antt).
+// pattern is a record, and each call says what it makes of it. A part is matched by itself (the
+// room `matching`), and its symbol is taken by the reader's own functions, so the laws of the
+// reader's loop carry over (proofs/Stepping.antt).
 ghost use mathlib.Core.Path.{_≡_};
 ghost use Rattle.frame.specs.Outcome.{outcome};
 ghost use Rattle.reader.specs.Read.{told};

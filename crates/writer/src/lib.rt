@@ -1,6 +1,6 @@
-// The writer: a report's octets to symbols, symbols to chips. The loops over octets and over symbols
-// keep that what is still to be written over the buffer is what they set out to write, so each turn
-// is one law about writing over a list (`frame`, proofs/Turns.antt).
+// The writer: a report's octets to symbols, symbols to chips. The loops over octets and over
+// symbols keep that what is still to be written over the buffer is what they set out to write, so
+// each turn is one law about writing over a list (`frame`, proofs/Turns.antt).
 ghost use mathlib.Core.Path.{_≡_};
 ghost use mathlib.Core.Bool.{true};
 ghost use Prim.Native.Nat.{_+_, _*_, _%_, _^_, _≤_, _<_};

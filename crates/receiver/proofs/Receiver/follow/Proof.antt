@@ -29,8 +29,9 @@ keep-requires : tie.Need-keep-requires
 keep-requires c κs = search needs
 
 returns-2 : tie.Need-returns-2
-returns-2 c = let a = c .before .before .before .before .before .before .before .args in
-    took (a .self) (a .symbol) _ _ _ (c .before .before .before .before .before .before .hand .ensures) (c .before .before .before .before .before .follow .ensures) (c .keep .ensures)
+returns-2 c = let w = c .before .before .before .before in
+    let a = w .before .before .before .args in
+    took (a .self) (a .symbol) _ _ _ (w .before .before .hand .ensures) (w .before .follow .ensures) (c .keep .ensures)
 
 pub follow-spec : {M : Type 1} → statement M
 follow-spec = tie.close (tie.spec hand-requires follow-requires whole-octets-requires with-numbers-requires returns keep-requires returns-2)
