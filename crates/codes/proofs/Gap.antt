@@ -8,7 +8,7 @@ use native.Mathlib.Omega.{arith}
 use lib.ListN.{length}
 use Rattle.codes.specs.Chips.{distance}
 use Rattle.codes.specs.Radio.{Radio, word, Sound}
-use Rattle.codes.specs.Symbol.{nearest, nearestBut, nextNearest, Spaced}
+use Rattle.codes.specs.Symbol.{nearest, nearestBut, nextNearest}
 use Rattle.codes.proofs.Chips.{distance-sym, distance-tri}
 use Rattle.codes.proofs.Leasts.{but-le, but-at}
 use Rattle.codes.proofs.Unique.{two-words, within-nearest}
@@ -23,16 +23,16 @@ module _ (r : Radio) (S : Sound r) (v : ℕ) (h : v < length (r .words)) where
       → nextNearest r chips - nearest r chips ≡ ahead r chips v
   ahead-is chips l n = let e = within-nearest r chips S l v h n in rw (e .0, e .1)
 
-  -- at least the least distance of two words less twice the limit
-  pub ahead-least : (d : ℕ) → Spaced r d → (chips : List ℕ) → length chips ≡ r .size → distance chips (word r v) ≤ r .limit
+  -- at least the distance of the nearest other word from it less twice the limit
+  pub ahead-least : (d : ℕ) → d ≤ nearestBut r (word r v) v → (chips : List ℕ) → length chips ≡ r .size → distance chips (word r v) ≤ r .limit
       → d - 2 * r .limit ≤ ahead r chips v
-  ahead-least d spaced chips l n =
+  ahead-least d apart chips l n =
       let t = but-at r chips v h (two-words r S) in
       omega (
         arith,
         n,
         t .3,
-        spaced v h,
+        apart,
         but-le r (word r v) v h (t .0) (t .1) (t .2),
         distance-tri (word r v) chips (word r (t .0)) (S .sized v h ∙ sym l),
         distance-sym (word r v) chips,

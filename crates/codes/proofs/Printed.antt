@@ -9,6 +9,7 @@ use lib.ListN.{take, drop}
 use lib.Dec.{ltb}
 use Rattle.codes.specs.Numbers.{DONE, BADMODE, TOOLONG, NOROOM, RUNOUT, NOCHIP, LOST, PREAMBLE, BADSTART}
 use Rattle.codes.specs.Numbers.{ENDED, BADPART, NOTENDED, MORE, TOOFEW, BADCHECK, ALLZERO, FORGED}
+use Rattle.codes.specs.Symbol.{NOGAP}
 use Rattle.codes.specs.Radio.{known, radioOf, bpsk, oqpsk, lowband}
 use Rattle.codes.specs.Radio.{bpskWords, oqpskWord, oqpskWords, lowbandWord, lowbandWords, turned, turns, oddInverted, turnedWords}
 
@@ -18,6 +19,10 @@ pub numbers-listed :
     ∷ ENDED ∷ BADPART ∷ NOTENDED ∷ MORE ∷ TOOFEW ∷ BADCHECK ∷ ALLZERO ∷ FORGED ∷ [])
     ≡ (0 ∷ 1 ∷ 2 ∷ 3 ∷ 4 ∷ 5 ∷ 6 ∷ 7 ∷ 8 ∷ 10 ∷ 11 ∷ 12 ∷ 13 ∷ 14 ∷ 15 ∷ 16 ∷ 34 ∷ [])
 numbers-listed = refl
+
+-- what is held for the gap before the first symbol: the greatest number of 32 bits
+pub no-gap-listed : NOGAP ≡ 4294967295
+no-gap-listed = refl
 
 -- the modes: each number's radio, and no number above 2 has one
 pub modes-listed : (radioOf 0 ≡ bpsk) × (radioOf 1 ≡ oqpsk) × (radioOf 2 ≡ lowband) × ((mode : ℕ) → known mode ≡ ltb mode 3)

@@ -9,7 +9,7 @@ use mathlib.Core.Logic.{_⊎_, inl, inr, _↔_}
 use Prim.Native.Nat.{ℕ, _+_, _*_, _≤_}
 use native.Mathlib.Omega.{arith}
 use lib.Dec.{eqb, ltb}
-use lib.ListN.{length, replicate, length-replicate}
+use lib.ListN.{length, take, replicate, length-replicate}
 use borrow.Author.Tests.{eqb-false, ne-eqb, ltb-true, ltb-false, leb-true, le-leb, not-true}
 use Rattle.codes.specs.Numbers.{DONE, RUNOUT, ENDED, NOTENDED, MORE, FORGED}
 use Rattle.codes.specs.Radio.{known, radioOf}
@@ -17,13 +17,13 @@ use Rattle.codes.specs.Symbol.{symbolOf}
 use Rattle.codes.proofs.Tests.{by-test, not-both}
 use Rattle.frame.specs.Frame.{perOctet, symbols}
 use Rattle.frame.proofs.Count.{symbols-long}
-use Rattle.order.specs.Order.{Answer}
+use Rattle.order.specs.Order.{Answer, done}
 use Rattle.reader.specs.Read.{told, left, answered}
 use Rattle.receiver.specs.declared.Receiver.{Receiver}
 use Rattle.receiver.specs.declared.Step.{Step}
 use Rattle.receiver.specs.Record.{step, startOf, total, forged, tookSymbol, pushOf, endedWith, finishOf, takeOf}
 use Rattle.receiver.proofs.Ways.{number-of-symbols, forged-no-radio, forged-long, forged-count, last-test, forged-open, forged-ended, forged-refused}
-use Rattle.receiver.proofs.Ways.{push-forged, push-ended, finish-forged, finish-ended, finish-open, takes-forged, takes-open, takes-refused}
+use Rattle.receiver.proofs.Ways.{push-forged, push-ended, finish-forged, finish-ended, finish-open, takes-forged, takes-open, takes-refused, takes-done}
 use Rattle.demands.specs.Calls.{Call, pushing, finishing, taking, called, after, tells, Idle}
 use Rattle.demands.specs.Calls.{Faulty, no-radio, too-long, too-many-repaired, misfits, FaultyOpen, FaultyWell}
 use Rattle.demands.proofs.Among.{among-pass}
@@ -159,6 +159,12 @@ module _ (c : Receiver) where
         let f = passed c (FaultyWell c) (well-tested c d) n in
         let m : c .ended ≡ MORE → ⊥ = λ e. omega (arith, d, e) in
         (λ part. sym (push-ended c part f m), sym (finish-ended c f m))
+
+    -- And take gives what it holds, count and gap as they are, where there is room for its octets.
+    pub well-taken : (FaultyWell c → ⊥) → length (c .octets) ≡ 127 → (buffer : List ℕ) → c .length ≤ length buffer
+        → takeOf c buffer ≡ answered (done (c .taken) (take (c .length) (c .octets)) (c .count) (c .gap)) buffer
+    well-taken n l buffer h =
+        ap (λ (a : Answer). answered a buffer) (sym (takes-done c (length buffer) (passed c (FaultyWell c) (well-tested c d) n) d l h))
 
   -- A record that a refusal ended is never tested: push and finish give it back with 10, and take
   -- repeats its number and place.

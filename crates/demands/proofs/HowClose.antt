@@ -13,12 +13,12 @@ use lib.ListN.{length, getD, set}
 use lib.Seq.{take-length, take-append-seam}
 use Rattle.codes.specs.Chips.{distance, bad}
 use Rattle.codes.specs.Radio.{Radio, Sound, word, radioOf, bpsk, bpskWords}
-use Rattle.codes.specs.Symbol.{nearest, nearestWord, Spaced}
+use Rattle.codes.specs.Symbol.{nearest, nearestWord, nearestBut, Spaced}
 use Rattle.codes.proofs.Chips.{distance-both}
 use Rattle.codes.proofs.Leasts.{nearest-at, but-at}
 use Rattle.codes.proofs.Facts.{bpsk-words, sound-bpsk, spaced-bpsk, spaced-oqpsk, spaced-lowband}
 use Rattle.codes.proofs.Gap.{ahead, ahead-is, ahead-least, ahead-between}
-use Rattle.frame.specs.Frame.{symbols, symbolsWith, frameWith}
+use Rattle.frame.specs.Frame.{symbols, symbolsWith}
 use Rattle.frame.proofs.Count.{frame-size, symbols-same}
 use Rattle.order.specs.Order.{window}
 use Rattle.demands.specs.Words.{windowGap, frameGap, apartIn, Near}
@@ -60,11 +60,12 @@ module _ (r : Radio) (S : Sound r) (report frame : List ℕ) (B : Bit r report f
     leads : (j : ℕ) → j < k → windowGap r (window r chips j) ≡ ahead r (window r chips j) (getD vs j 0)
     leads j h = ahead-is r S (getD vs j 0) (known j h) (window r chips j) (sized j h) (close j h)
 
-    -- so it is at least the least distance of two words less twice the limit
-    pub near-gap : (d : ℕ) → Spaced r d → d - 2 * r .limit ≤ frameGap r chips report
-    near-gap d spaced =
+    -- so it is at least the least distance of two words less twice the limit: where from every word
+    -- the nearest other is d away or more
+    pub near-gap : (d : ℕ) → ((v : ℕ) → v < length (r .words) → d ≤ nearestBut r (word r v) v) → d - 2 * r .limit ≤ frameGap r chips report
+    near-gap d apart =
         gap-above r chips k (some-symbols r S report) (d - 2 * r .limit)
-        (λ j h. rw (leads j h) (ahead-least r S (getD vs j 0) (known j h) d spaced (window r chips j) (sized j h) (close j h)))
+        (λ j h. rw (leads j h) (ahead-least r S (getD vs j 0) (known j h) d (apart (getD vs j 0) (known j h)) (window r chips j) (sized j h) (close j h)))
 
   -- One wrong chip put right does not lower it.
   pub right-gap : (chips : List ℕ) (count : ℕ) → Near r chips frame count → (i c : ℕ) → i < length frame → Near r (set chips i (getD frame i 0)) frame c

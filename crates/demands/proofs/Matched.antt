@@ -1,17 +1,17 @@
 -- Matching one symbol: 1, 11 and 5 in that order, with zeros; else 0 or 6, by the limit, and either
 -- way the nearest word, the lowest number on a tie, how far it is, and how far the next-nearest
 -- other word is. Every radio. Assumes nothing.
-use mathlib.Core.Path.{_≡_, refl, sym, ap, _∙_}
+use mathlib.Core.Path.{_≡_, refl, sym, _∙_}
 use mathlib.Core.Bool.{true, false}
 use mathlib.Core.List.{List, [], _∷_}
-use Prim.Native.Nat.{ℕ, _<_}
+use Prim.Native.Nat.{ℕ}
 use native.Mathlib.Omega.{arith}
 use lib.ListN.{length}
 use lib.Dec.{eqb, leb}
 use borrow.Author.Tests.{eq-eqb, ne-eqb}
 use Rattle.codes.specs.Numbers.{DONE, BADMODE, NOCHIP, LOST, BADPART}
-use Rattle.codes.specs.Chips.{pick, among, distance, bad}
-use Rattle.codes.specs.Radio.{Radio, Sound, known, radioOf, word}
+use Rattle.codes.specs.Chips.{pick, among, bad}
+use Rattle.codes.specs.Radio.{Radio, Sound, known, radioOf}
 use Rattle.codes.specs.Symbol.{nearest, nearestWord, refused, closeness, symbolOf, matchOf}
 use Rattle.codes.specs.declared.Symbol.{Symbol}
 use Rattle.codes.proofs.Tests.{by-pick}

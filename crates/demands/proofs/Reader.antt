@@ -8,6 +8,7 @@ use mathlib.Core.Logic.{_↔_}
 use mathlib.Core.Bool.{true}
 use mathlib.Core.List.{List, _++_}
 use Prim.Native.Nat.{ℕ, suc, _-_, _*_, _≤_, _<_}
+use native.Mathlib.Omega.{arith}
 use lib.ListN.{length, getD, set, take, drop, replicate}
 use lib.Seq.{take-at}
 use Rattle.codes.specs.Numbers.{DONE, NOROOM}
@@ -95,7 +96,8 @@ module _ (mode : ℕ) (k : known mode ≡ true) (chips buffer report : List ℕ)
   reads-gap-least =
       let n = answer-frame (radioOf mode) (sound mode) (length buffer) chips report count answers in
       rw reads-gap
-      (near-gap (radioOf mode) (sound mode) report _ (bit-of (radioOf mode) report _ (n .0)) chips count (n .1) (apartIn mode) (spaced mode))
+      (near-gap (radioOf mode) (sound mode) report _ (bit-of (radioOf mode) report _ (n .0)) chips count (n .1) (apartIn mode)
+      (λ v h. omega (arith, spaced mode v h)))
 
   -- One wrong chip of the frame that it was read off put right: the same report, a count one less,
   -- and no smaller a gap.

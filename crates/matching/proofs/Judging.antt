@@ -8,7 +8,7 @@ use native.Mathlib.Omega.{arith}
 use lib.ListN.{length}
 use lib.Dec.{leb, ltb}
 use borrow.Author.Tests.{leb-true, ltb-true}
-use Rattle.codes.specs.Chips.{distance, bad}
+use Rattle.codes.specs.Chips.{bad}
 use Rattle.codes.specs.Radio.{Radio, word, radioOf, known}
 use Rattle.codes.specs.Symbol.{nearest, nearestWord, nextNearest, symbolOf}
 use Rattle.codes.specs.Gathered.{layoutOf, chipIn, chipsIn, symbolIn}

@@ -63,7 +63,7 @@ unfoldable pub repaired : List Symbol → ℕ
 repaired [] = 0
 repaired (x ∷ xs) = x .distance + repaired xs
 
--- the smallest gap of them: how close the closest was
+-- the smallest gap of them
 unfoldable pub smallestGap : List Symbol → ℕ
 smallestGap xs = least (map gapOf xs)
 

@@ -4,4 +4,5 @@ pub mod Sofar
 pub mod Scanning
 pub mod Modes
 pub mod Told
+pub mod Sheet
 pub mod Settled

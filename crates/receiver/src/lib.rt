@@ -220,7 +220,7 @@ impl Receiver {
     }
 }
 
-// All 0 but the mode, the number and the smallest gap, which no gap is as large as yet.
+// All 0 but the mode, the number and the smallest gap, for which stands a number above every gap.
 fn begin(mode: u32, number: u32) -> Step
     ensures { λ r. ⌜ r ≡ step number (fresh mode number) ⌝ }
 {

@@ -1,5 +1,5 @@
 -- `near` meets its contract: the least key, and the least above it. Assumes nothing.
-use mathlib.Core.Path.{_≡_, ap, _∙_}
+use mathlib.Core.Path.{ap, _∙_}
 use Prim.Native.Nat.{ℕ, _+_, _%_, _^_}
 use Rattle.columns.specs.Columns.{leastPast, nearIn}
 use borrow.Author.Needs.{needs}

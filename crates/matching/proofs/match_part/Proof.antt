@@ -1,7 +1,6 @@
 -- `match_part` meets its contract: the tests of the definition, an answer each. Assumes nothing.
-use mathlib.Core.Path.{_≡_, ap, _∙_}
+use mathlib.Core.Path.{_∙_}
 use borrow.Author.Tests.{eq-eqb, ne-eqb}
-use Rattle.codes.specs.declared.Phy.{Phy}
 use Rattle.codes.specs.Symbol.{matchOf}
 use Rattle.codes.proofs.Modes.{phy-sized, phy-sizeless}
 use borrow.Author.Needs.{needs}

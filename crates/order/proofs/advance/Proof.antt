@@ -1,7 +1,6 @@
 -- `advance` meets its contract: its tests are the definition's. Assumes nothing.
-use mathlib.Core.Path.{_≡_, sym, ap, _∙_}
+use mathlib.Core.Path.{_≡_, sym, _∙_}
 use mathlib.Core.Logic.{inl, inr, ⊎-elim}
-use Prim.Native.Nat.{ℕ}
 use Rattle.codes.specs.Symbol.{lesser}
 use Rattle.order.specs.Taking.{stopped, gapAt}
 use Rattle.order.proofs.Steps.{goes, stops, sub-gap}

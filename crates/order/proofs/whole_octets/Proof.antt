@@ -1,5 +1,5 @@
 -- `whole_octets` meets its contract: it asks by the row's number. Assumes nothing.
-use mathlib.Core.Path.{sym, _∙_}
+use mathlib.Core.Path.{_∙_}
 use native.Mathlib.Omega.{arith}
 use borrow.Author.Needs.{needs}
 use Rattle.codes.proofs.Modes.{phy-sizeless}
