@@ -55,7 +55,7 @@ SONAME = liblernazhup.so.$(firstword $(subst ., ,$(VERSION)))
 CRATES = send bench
 TOOLS = Makefile tools/cc tools/sanitizer-flags
 # what the archive is made of
-ROOMS = codes columns matching strips frame writer order reader receiver fcs checked gateway
+ROOMS = codes columns matching strips frame writer order steps reader receiver fcs checked gateway
 PROVED := $(shell find $(ROOMS:%=crates/%) -name '*.rt' -o -name '*.antt')
 COMPARED = compare compared_calls chip_cases octet_cases record_cases lent_memory printed_facts reference
 TIMED = usual_read best_read copying_write usual_fcs

@@ -26,8 +26,8 @@ static unsigned damage(uint8_t *chips, size_t length, size_t size, unsigned limi
 }
 
 /* What a gap says to whoever places the aerial. None is larger than that of a frame as sent. A
- * wrong chip may take two off it; where as many as are accepted all did, one more in that symbol is a
- * lost frame. */
+ * wrong chip may take two off it; where as many as are accepted all did, one more in that symbol is
+ * a lost frame. */
 static const char *closeness(uint32_t mode, uint32_t gap)
 {
     uint32_t best = LERNAZHUP_BY_MODE(mode, 15u, 12u, 6u);

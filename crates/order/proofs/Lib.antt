@@ -6,4 +6,3 @@ pub mod Windows
 pub mod Carried
 pub mod Turns
 pub mod Gathered
-pub mod Settled

@@ -1,7 +1,7 @@
 -- Readings in numerals, of mode 2's frame of an empty report, by computation: as written; with one
--- chip wrong in the preamble, or in the last symbol; with one wrong that leads to no other word; and
--- with symbols of two gaps. With the largest gap in place of the smallest, or that of some symbols,
--- in definitions, code and laws alike, all else would be proved. Assumes nothing.
+-- chip wrong in the preamble, or in the last symbol; with one wrong that leads to no other word;
+-- and with symbols of two gaps. With the largest gap in place of the smallest, or that of some
+-- symbols, in definitions, code and laws alike, all else would be proved. Assumes nothing.
 use mathlib.Core.Path.{_≡_, refl}
 use mathlib.Core.List.{List, []}
 use Prim.Native.Nat.{ℕ, _-_}

@@ -1,7 +1,7 @@
 // The reader: a chip buffer to the report or a numbered refusal, by the reading order. A loop over
 // symbols around a loop over chips; between symbols it carries a few numbers, the hand (the room
-// `order`), and what is still to be read stays the whole reading's answer (proofs/Sofar.antt,
-// proofs/Scanning.antt).
+// `order`), by the steps of one symbol (`steps`); what is still to be read stays the whole
+// reading's answer (proofs/Sofar.antt, proofs/Scanning.antt).
 ghost use mathlib.Core.Path.{_≡_};
 ghost use mathlib.Core.Bool.{true};
 ghost use lib.ListN.{length};
@@ -49,7 +49,7 @@ fn scan(mode: u32, chips: &[u8], room: usize, octets: &mut [u8; 127]) -> order::
     ensures { λ r. ⌜ Tells (radioOf mode) room (reading (radioOf mode) room (now (chips .entry))) (now (octets .exit)) r ⌝ }
 {
     let size = codes::phy_of(mode).size;
-    let mut hand = order::begin();
+    let mut hand = steps::begin();
     let mut at: usize = 0;
     'symbols: while size <= chips.len() - at {
         let part = &chips[at..at + size];
@@ -58,14 +58,14 @@ fn scan(mode: u32, chips: &[u8], room: usize, octets: &mut [u8; 127]) -> order::
         'chips: while k < codes::EIGHTS {
             bits = gather_eight(mode, part, k, bits);
             if bits == codes::NOEIGHT {
-                hand = order::stop(codes::NOCHIP, hand);
+                hand = steps::stop(codes::NOCHIP, hand);
                 break 'symbols;
             }
             k += 1;
         }
         let next = take_symbol(mode, hand, bits);
         if next.number != codes::MORE && next.number != codes::DONE {
-            hand = order::stop(next.number, hand);
+            hand = steps::stop(next.number, hand);
             break 'symbols;
         }
         hand = settle(mode, room, hand, next, octets);
@@ -98,15 +98,15 @@ fn take_symbol(mode: u32, hand: order::Hand, bits: u64) -> order::Hand
     ensures { λ r. ⌜ r ≡ followed mode hand (symbolIn mode bits) ⌝ }
 {
     if mode == 0 {
-        return order::follow(0, hand, matching::judge(0, matching::nearest(0, bits)));
+        return steps::follow(0, hand, matching::judge(0, matching::nearest(0, bits)));
     }
     if mode == 1 {
-        return order::follow(1, hand, matching::judge(1, matching::nearest(1, bits)));
+        return steps::follow(1, hand, matching::judge(1, matching::nearest(1, bits)));
     }
     if mode == 2 {
-        return order::follow(2, hand, matching::judge(2, matching::nearest(2, bits)));
+        return steps::follow(2, hand, matching::judge(2, matching::nearest(2, bits)));
     }
-    order::stop(codes::BADMODE, hand)
+    steps::stop(codes::BADMODE, hand)
 }
 
 // What a whole octet brings: the test of room, and the octet itself. Within an octet n stands as it
@@ -127,7 +127,7 @@ fn settle(
         return next;
     }
     let held = with_room(room, hand, next);
-    order::keep(mode, held, octets);
+    steps::keep(mode, held, octets);
     held
 }
 
@@ -136,7 +136,7 @@ fn with_room(room: usize, hand: order::Hand, next: order::Hand) -> order::Hand
     ensures { λ r. ⌜ r ≡ roomed room hand next ⌝ }
 {
     if room < next.length as usize {
-        return order::stop(codes::NOROOM, hand);
+        return steps::stop(codes::NOROOM, hand);
     }
     next
 }

@@ -139,12 +139,12 @@ impl Receiver {
     fn follow(self, symbol: codes::Symbol) -> Step
         ensures { λ r. ⌜ r ≡ tookSymbol self symbol ⌝ }
     {
-        let hand = order::follow(self.mode, self.hand(), symbol);
-        if !order::whole_octets(self.mode, hand) {
+        let hand = steps::follow(self.mode, self.hand(), symbol);
+        if !steps::whole_octets(self.mode, hand) {
             return self.with_numbers(hand);
         }
         let mut octets = self.octets;
-        order::keep(self.mode, hand, &mut octets);
+        steps::keep(self.mode, hand, &mut octets);
         Step {
             number: hand.number,
             receiver: Receiver {

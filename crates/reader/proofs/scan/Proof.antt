@@ -21,8 +21,8 @@ use Rattle.reader.proofs.scan.Reads as reads
 use Rattle.reader.proofs.scan.Lts as lts
 use Rattle.codes.proofs.phy_of.Reads as phy-of-reads
 use Rattle.reader.proofs.gather_eight.Reads as gather-eight-reads
-use Rattle.order.proofs.begin.Reads as begin-reads
-use Rattle.order.proofs.stop.Reads as stop-reads
+use Rattle.steps.proofs.begin.Reads as begin-reads
+use Rattle.steps.proofs.stop.Reads as stop-reads
 use Rattle.reader.proofs.take_symbol.Reads as take-symbol-reads
 use Rattle.reader.proofs.settle.Reads as settle-reads
 

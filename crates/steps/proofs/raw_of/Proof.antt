@@ -3,8 +3,8 @@
 use native.Mathlib.Nat.{mod-lt}
 use native.Mathlib.Omega.{arith}
 use borrow.Author.Needs.{needs}
-use Rattle.order.proofs.raw_of.Statement.{statement}
-use Rattle.order.proofs.raw_of.Tie as tie
+use Rattle.steps.proofs.raw_of.Statement.{statement}
+use Rattle.steps.proofs.raw_of.Tie as tie
 
 rem-result : tie.Need-rem-result
 rem-result c = search needs

@@ -9,12 +9,12 @@ use Rattle.codes.specs.Numbers.{DONE, MORE}
 use Rattle.codes.proofs.Modes.{phy-sizeless}
 use Rattle.codes.proofs.phy_of.Reads as phy-of-reads
 use Rattle.frame.proofs.Modes.{some-symbols, row-sized, per-few}
 use Rattle.order.proofs.Steps.{keep-no-radio, kept-stops, keep-early, keep-partial, keep-place, keep-whole, keep-past}
-use Rattle.order.proofs.whole.Reads as whole-reads
-use Rattle.order.proofs.keep.Statement.{statement}
-use Rattle.order.proofs.keep.Tie as tie
-use Rattle.order.proofs.keep.Reads as reads
-use Rattle.order.proofs.keep.Lts as lts
+use Rattle.steps.proofs.whole.Reads as whole-reads
+use Rattle.steps.proofs.keep.Statement.{statement}
+use Rattle.steps.proofs.keep.Tie as tie
+use Rattle.steps.proofs.keep.Reads as reads
+use Rattle.steps.proofs.keep.Lts as lts
 
 -- past the test of the mode, and past that of the number
 abbrev Known : Type 0

@@ -4,8 +4,8 @@ use Prim.Native.Nat.{ℕ, _*_, _/_, _%_, _≤_, _<_}
 use native.Mathlib.Nat.{mul-le-mul-right, div-le-self}
 use native.Mathlib.Omega.{arith}
 use borrow.Author.Needs.{needs}
-use Rattle.order.proofs.shift.Statement.{statement}
-use Rattle.order.proofs.shift.Tie as tie
+use Rattle.steps.proofs.shift.Statement.{statement}
+use Rattle.steps.proofs.shift.Tie as tie
 
 -- a raw symbol at the top of an octet
 entered : (values raw : ℕ) → raw < 16 → raw * (256 / values) ≤ 4096

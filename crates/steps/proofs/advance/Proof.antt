@@ -2,13 +2,13 @@
 use mathlib.Core.Path.{_≡_, sym, _∙_}
 use mathlib.Core.Logic.{inl, inr, ⊎-elim}
 use Rattle.codes.specs.Symbol.{lesser}
 use Rattle.order.specs.Taking.{stopped, gapAt}
 use Rattle.order.proofs.Steps.{goes, stops, sub-gap}
 use borrow.Author.Needs.{needs}
 use borrow.Author.Tests.{eqb-true, eqb-false, not-true, not-false, lt-ltb, le-ltb}
 use Rattle.codes.specs.Numbers.{DONE}
-use Rattle.order.proofs.advance.Statement.{statement}
-use Rattle.order.proofs.advance.Tie as tie
+use Rattle.steps.proofs.advance.Statement.{statement}
+use Rattle.steps.proofs.advance.Tie as tie
 
 stop-requires : tie.Need-stop-requires
 stop-requires c κs = search needs

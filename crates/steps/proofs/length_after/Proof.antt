@@ -1,9 +1,9 @@
 -- `length_after` meets its contract: its test is the definition's. Assumes nothing.
 use mathlib.Core.Path.{refl}
 use Rattle.order.proofs.Rules.{ends-is, ends-not}
 use borrow.Author.Needs.{needs}
-use Rattle.order.proofs.length_after.Statement.{statement}
-use Rattle.order.proofs.length_after.Tie as tie
+use Rattle.steps.proofs.length_after.Statement.{statement}
+use Rattle.steps.proofs.length_after.Tie as tie
 
 add-if1 : tie.Need-add-if1
 add-if1 c = search needs

@@ -4,10 +4,10 @@ use mathlib.Core.Bool.{not}
 use mathlib.Core.Logic.{⊎-elim}
 use lib.Dec.{eqb, ltb}
 use borrow.Author.Tests.{lt-ltb, le-ltb}
 use Rattle.order.proofs.Rules.{neither}
 use borrow.Author.Needs.{needs}
-use Rattle.order.proofs.preamble_rule.Statement.{statement}
-use Rattle.order.proofs.preamble_rule.Tie as tie
+use Rattle.steps.proofs.preamble_rule.Statement.{statement}
+use Rattle.steps.proofs.preamble_rule.Tie as tie
 
 mul-if1 : tie.Need-mul-if1
 mul-if1 c = search needs

@@ -4,9 +4,9 @@ use native.Mathlib.Omega.{arith}
 use borrow.Author.Needs.{needs}
 use Rattle.codes.proofs.Modes.{phy-sizeless}
 use Rattle.frame.proofs.Modes.{some-symbols, row-sized}
 use Rattle.order.specs.Taking.{wholeAt}
-use Rattle.order.proofs.whole_octets.Statement.{statement}
-use Rattle.order.proofs.whole_octets.Tie as tie
+use Rattle.steps.proofs.whole_octets.Statement.{statement}
+use Rattle.steps.proofs.whole_octets.Tie as tie
 
 phy-of-requires : tie.Need-phy-of-requires
 phy-of-requires c κs = search needs

@@ -6,15 +6,15 @@ use native.Mathlib.Nat.{mul-le-mul-right}
 use lib.Dec.{eqb, ltb}
 use Rattle.codes.proofs.Tests.{not-both}
 use Rattle.frame.specs.Frame.{startOctet}
 use Rattle.order.specs.Order.{both, ends}
 use mathlib.Core.Logic.{⊎-elim}
 use native.Mathlib.Omega.{arith}
 use Rattle.order.proofs.Rules.{neither, ends-is, ends-not, rules-8, rules-done, rules-more}
 use borrow.Author.Needs.{needs}
-use Rattle.order.proofs.octet_rules.Statement.{statement}
-use Rattle.order.proofs.octet_rules.Tie as tie
-use Rattle.order.proofs.octet_rules.Reads as reads
-use Rattle.order.proofs.octet_rules.Lts as lts
+use Rattle.steps.proofs.octet_rules.Statement.{statement}
+use Rattle.steps.proofs.octet_rules.Tie as tie
+use Rattle.steps.proofs.octet_rules.Reads as reads
+use Rattle.steps.proofs.octet_rules.Lts as lts
 
 -- rule 4 passes a raw symbol of 0
 off-7 : (per s : ℕ) → both (ltb s (4 * per)) (not (eqb 0 0)) ≡ false

@@ -3,16 +3,16 @@
 -- Assumes nothing.
 use denote.Ref.{now}
 use Rattle.codes.proofs.Settled.{settled, Settles, SettlesLent, AsksNothing}
-use Rattle.order.proofs.begin.Kinds as begin-kinds
-use Rattle.order.proofs.begin.Reads as begin-promise
-use Rattle.order.proofs.stop.Kinds as stop-kinds
-use Rattle.order.proofs.stop.Reads as stop-promise
-use Rattle.order.proofs.follow.Kinds as follow-kinds
-use Rattle.order.proofs.follow.Reads as follow-promise
-use Rattle.order.proofs.whole_octets.Kinds as whole-octets-kinds
-use Rattle.order.proofs.whole_octets.Reads as whole-octets-promise
-use Rattle.order.proofs.keep.Kinds as keep-kinds
-use Rattle.order.proofs.keep.Reads as keep-promise
+use Rattle.steps.proofs.begin.Kinds as begin-kinds
+use Rattle.steps.proofs.begin.Reads as begin-promise
+use Rattle.steps.proofs.stop.Kinds as stop-kinds
+use Rattle.steps.proofs.stop.Reads as stop-promise
+use Rattle.steps.proofs.follow.Kinds as follow-kinds
+use Rattle.steps.proofs.follow.Reads as follow-promise
+use Rattle.steps.proofs.whole_octets.Kinds as whole-octets-kinds
+use Rattle.steps.proofs.whole_octets.Reads as whole-octets-promise
+use Rattle.steps.proofs.keep.Kinds as keep-kinds
+use Rattle.steps.proofs.keep.Reads as keep-promise
 
 pub begin-settled : Settles 0 begin-kinds.ps begin-kinds.r begin-promise.Post
 begin-settled κs a p q s t = settled p q

@@ -6,10 +6,10 @@ use borrow.Author.Tests.{eqb-false, not-true}
 use borrow.Author.Needs.{needs}
 use Rattle.codes.proofs.Modes.{phy-sizeless}
 use Rattle.frame.proofs.Modes.{some-symbols, row-sized, per-few}
 use Rattle.order.proofs.Rules.{inside-rules, inside-length, length-few, rules-passed}
 use Rattle.order.proofs.Steps.{raw-few, row-raw, row-shifted, row-values, follow-no-radio, follow-refused, follow-on, follow-preamble}
-use Rattle.order.proofs.follow.Statement.{statement}
-use Rattle.order.proofs.follow.Tie as tie
+use Rattle.steps.proofs.follow.Statement.{statement}
+use Rattle.steps.proofs.follow.Tie as tie
 
 phy-of-requires : tie.Need-phy-of-requires
 phy-of-requires c κs = search needs
