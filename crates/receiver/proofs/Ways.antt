@@ -186,6 +186,13 @@ module _ (c : Receiver) where
     unfolding finishOf
     finish-open o = rw (f, eq-eqb (c .ended) MORE o)
 
+-- Ending a record sets its number, and every other field is as it was: the fields written out, so
+-- that it doesn't rest on what `endedWith` says.
+pub ended-keeps : (x : ℕ) (c : Receiver) → (endedWith x c .ended ≡ x) × (endedWith x c .mode ≡ c .mode) × (endedWith x c .taken ≡ c .taken)
+    × (endedWith x c .length ≡ c .length) × (endedWith x c .count ≡ c .count) × (endedWith x c .last ≡ c .last) × (endedWith x c .octet ≡ c .octet)
+    × (endedWith x c .gap ≡ c .gap) × (endedWith x c .octets ≡ c .octets)
+ended-keeps x c = (refl, refl, refl, refl, refl, refl, refl, refl, refl)
+
 -- the ways of `tell`
 module _ (c : Receiver) (room : ℕ) where
   pub takes-forged : forged c ≡ true → refused FORGED 0 ≡ takes c room
