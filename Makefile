@@ -2,8 +2,8 @@
 #                 CAPTURE=file the bench program on that capture and nothing else
 # make send       a report to a raw capture: MODE=0, 1 or 2, PROFILE=plain or checked (the
 #                 environment's too), REPORT=file, OUT=file
-# make check      programs, library and tests from outside: about two minutes, less where all is
-#                 proved already; SEED=.. and CASES=.. repeat a comparison
+# make check      programs, library and tests from outside: two or three minutes, less where all
+#                 is proved already; SEED=.. and CASES=.. repeat a comparison
 # make test       the gate: make check, then every proof from nothing (`rt ci`)
 # make lib        build/liblernazhup.a, build/lernazhup.h and build/lernazhup.pc, for C
 # make shared     build/liblernazhup.so

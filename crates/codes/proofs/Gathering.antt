@@ -1,6 +1,6 @@
 -- What a loop over a symbol's eights gathers: while each eight passes its test, the bits hold the
 -- chips so far; where one does not, a byte of the symbol is no chip; and after the last one the
--- symbol of the bits is that of the chips. The reader's loop and the receiver's stand on it alike.
+-- symbol of the bits is that of the chips. The reader's loop and matching's stand on it alike.
 -- Over any layout that has a place for each chip. Assumes nothing.
 use mathlib.Core.Path.{_≡_, refl, sym, ap, _∙_}
 use mathlib.Core.Bool.{Bool, true, false}

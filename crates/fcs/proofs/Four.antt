@@ -10,7 +10,7 @@ use native.Mathlib.Omega.{arith}
 use lib.Dec.{eqb}
 use lib.ListN.{length}
 use borrow.Author.Tests.{eqb-true, eqb-false}
-use Rattle.codes.specs.Chips.{pick, differ, distance}
+use Rattle.codes.specs.Chips.{pick, distance}
 use Rattle.codes.proofs.Chips.{xor-differ}
 use Rattle.codes.proofs.Tests.{upto, by-test, not-both}
 use Rattle.frame.proofs.Below.{Below}

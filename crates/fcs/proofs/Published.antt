@@ -4,7 +4,7 @@
 use mathlib.Core.Path.{_≡_, refl}
 use mathlib.Core.List.{[], _∷_}
 use Rattle.frame.specs.Frame.{digits}
-use Rattle.fcs.specs.Fcs.{polynomial, entered, registerAfter, bits, fcsOf, fcsOctets}
+use Rattle.fcs.specs.Fcs.{entered, registerAfter, bits, fcsOf, fcsOctets}
 
 -- the acknowledgement of IEEE 802.15.4: its three octets and the two of its FCS
 pub acknowledgement : fcsOctets (0x02 ∷ 0x00 ∷ 0x6A ∷ []) ≡ 0xE4 ∷ 0x79 ∷ []

@@ -1,4 +1,5 @@
--- The ways of the functions that take one symbol, over plain values. Assumes nothing.
+-- The ways of the functions that take one symbol (those of `steps`), over plain values. Assumes
+-- nothing.
 use mathlib.Core.Path.{_≡_, refl, sym, ap, _∙_}
 use mathlib.Core.Bool.{true, false}
 use mathlib.Core.List.{List}

@@ -1,4 +1,4 @@
--- `follow` meets its contract: a law for each of its ways (Steps.antt). Assumes nothing.
+-- `follow` meets its contract: a law for each of its ways (Steps.antt of `order`). Assumes nothing.
 use Prim.Native.Nat.{_+_, _%_}
 use mathlib.Core.Path.{_≡_, sym, _∙_}
 use native.Mathlib.Omega.{arith}

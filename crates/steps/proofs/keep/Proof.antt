@@ -1,4 +1,4 @@
--- `keep` meets its contract: a law for each of its ways (Steps.antt). Assumes nothing.
+-- `keep` meets its contract: a law for each of its ways (Steps.antt of `order`). Assumes nothing.
 use mathlib.Core.Path.{_≡_, sym, _∙_}
 use mathlib.Core.Logic.{_⊎_, inl, inr, ⊎-elim}
 use Prim.Native.Nat.{_≤_}

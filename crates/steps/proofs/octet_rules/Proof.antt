@@ -1,4 +1,5 @@
--- `octet_rules` meets its contract: a law for each of its ways (Rules.antt). Assumes nothing.
+-- `octet_rules` meets its contract: a law for each of its ways (Rules.antt of `order`). Assumes
+-- nothing.
 use Prim.Native.Nat.{ℕ, suc, _+_, _*_}
 use mathlib.Core.Path.{_≡_, refl, sym, ap}
 use mathlib.Core.Bool.{false, not}

@@ -1,4 +1,5 @@
--- `octet_at` meets its contract: the frame's octets one by one (Octets.antt). Assumes nothing.
+-- `octet_at` meets its contract: the frame's octets one by one (Octets.antt of `frame`). Assumes
+-- nothing.
 use mathlib.Core.Path.{sym, _∙_}
 use native.Mathlib.Omega.{arith}
 use Rattle.frame.proofs.Octets.{preamble-octet, report-octet}

@@ -1,4 +1,5 @@
--- `write` meets its contract: a law for each of its four ways (Writer.antt). Assumes nothing.
+-- `write` meets its contract: a law for each of its four ways (Writer.antt of `frame`). Assumes
+-- nothing.
 use Prim.Native.Nat.{_*_}
 use mathlib.Core.Path.{ap}
 use native.Mathlib.Omega.{arith}
