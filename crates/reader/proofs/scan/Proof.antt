@@ -38,10 +38,18 @@ Inv-symbols mode chips room octets₀ size hand₀ at₀ octets hand at = Scanni
 abbrev μ-symbols : tie.MeasureT-symbols
 μ-symbols mode chips room octets₀ size hand₀ at₀ octets hand at = length chips - at
 
--- the state in the loop over a symbol's eights, and after one of its turns
-abbrev Eights : Type 0
-Eights =
-    lts.At-chips (
+-- three states of one function's calls
+abbrev three : {K : Type 1} → (K → Type 0) → (K → Type 0) → (K → Type 0) → K → Type 0 × Type 0 × Type 0
+three f g h k = (f k, g k, h k)
+
+-- in the loop over a symbol's eights, where its symbol is taken, and after a turn
+abbrev States : Type 0 × Type 0 × Type 0
+States =
+    three
+    (λ calls. lts.At-chips calls reads.Pre reads.Post Inv-chips μ-chips Inv-symbols μ-symbols)
+    (λ calls. lts.After-take-symbol calls reads.Pre reads.Post Inv-chips μ-chips Inv-symbols μ-symbols)
+    (λ calls. lts.After-settle calls reads.Pre reads.Post Inv-chips μ-chips Inv-symbols μ-symbols)
+    (
       phy-of-reads.Asked,
       phy-of-reads.Learnt,
       begin-reads.Asked,
@@ -55,43 +63,15 @@ Eights =
       settle-reads.Asked,
       settle-reads.Learnt,
     )
-    reads.Pre reads.Post Inv-chips μ-chips Inv-symbols μ-symbols
+
+abbrev Eights : Type 0
+Eights = States .0
 
 abbrev Taken : Type 0
-Taken =
-    lts.After-take-symbol (
-      phy-of-reads.Asked,
-      phy-of-reads.Learnt,
-      begin-reads.Asked,
-      begin-reads.Learnt,
-      gather-eight-reads.Asked,
-      gather-eight-reads.Learnt,
-      stop-reads.Asked,
-      stop-reads.Learnt,
-      take-symbol-reads.Asked,
-      take-symbol-reads.Learnt,
-      settle-reads.Asked,
-      settle-reads.Learnt,
-    )
-    reads.Pre reads.Post Inv-chips μ-chips Inv-symbols μ-symbols
+Taken = States .1
 
 abbrev Turn : Type 0
-Turn =
-    lts.After-settle (
-      phy-of-reads.Asked,
-      phy-of-reads.Learnt,
-      begin-reads.Asked,
-      begin-reads.Learnt,
-      gather-eight-reads.Asked,
-      gather-eight-reads.Learnt,
-      stop-reads.Asked,
-      stop-reads.Learnt,
-      take-symbol-reads.Asked,
-      take-symbol-reads.Learnt,
-      settle-reads.Asked,
-      settle-reads.Learnt,
-    )
-    reads.Pre reads.Post Inv-chips μ-chips Inv-symbols μ-symbols
+Turn = States .2
 
 -- the part is one symbol long
 size-is : (c : Eights) → c .before .before .before .before .before .phy-of .result .size
