@@ -13,7 +13,7 @@ use Rattle.codes.specs.Chips.{distance}
 use Rattle.codes.specs.Radio.{Radio, Sound, word, oqpsk, lowband}
 use Rattle.codes.specs.Packed.{packed, byteOf}
 use Rattle.codes.specs.Gathered.{layoutOf, chipIn, chipsIn}
-use Rattle.columns.specs.Columns.{firstThird, folded, fourColumns, twoColumns, turnedBits, turnedPair, parted, apartAt, Keyed, nearIn}
+use Rattle.columns.specs.Columns.{firstThird, folded, fourColumns, twoColumns, turnedBits, turnedPair, parted, evenParted, oddParted, apartAt, Half, Keyed, nearIn}
 use Rattle.codes.specs.Near.{nearestOf, nearestIn}
 use Rattle.codes.proofs.Tests.{every, each}
 use Rattle.codes.proofs.Packed.{packed-cong, mask-digits, digit-lt}
@@ -49,11 +49,11 @@ module _ (r : Radio) (S : Sound r) (n : ℕ) (few : n ≤ 16) (even odd : ℕ �
   columns-nearest : (t : ℕ) → firstThird t ≡ laid (λ m. chipIn (layoutOf r) bits (even m)) n
       → firstThird (t / 256) ≡ laid (λ m. chipIn (layoutOf r) bits (odd m)) n
       → ((m : ℕ) → m < n → even m < r .size) → ((m : ℕ) → m < n → odd m < r .size)
-      → (e o : ℕ) → e ≡ firstThird t → o ≡ firstThird (t / 256) → (p′ q′ : ℕ) → p′ ≡ p → q′ ≡ q → (keys : List ℕ)
-      → Keyed (apartAt n (parted e p′) (parted o q′)) keys → nearIn keys ≡ nearestOf r symbol
-  columns-nearest t le lo ie io e o ee eo p′ q′ ep eq keys K =
-      key-nearest e o (omega (arith, ee)) (omega (arith, eo)) (ee ∙ le ∙ listed-laid even ie) (eo ∙ lo ∙ listed-laid odd io) keys
-      (λ v h. rw (ep, eq) at (K v h))
+      → (w : ℕ) → (firstThird w ≡ p) × (firstThird (w / 256) ≡ q) → (keys : List ℕ)
+      → Keyed (apartAt n (evenParted t w) (oddParted t w)) keys → nearIn keys ≡ nearestOf r symbol
+  columns-nearest t le lo ie io w e keys K =
+      key-nearest (firstThird t) (firstThird (t / 256)) (omega arith) (omega arith) (le ∙ listed-laid even ie) (lo ∙ listed-laid odd io) keys
+      (λ v h. rw (e .0, e .1) at (K v h))
 
 -- chip j of eight e, whose index is i, where the eights stand one after the other
 chip-of : (eights lift bits e i j : ℕ) → i ≡ e * 8 + j → j < 8
@@ -92,7 +92,11 @@ fourth-bits : (b : ℕ) → b < 256 → bitAnd b 0x11 ≡ fourths b
 unfolding every fourths
 fourth-bits = mask-by 0x11 fourths refl
 
--- mode 1
+-- mode 1: the columns of word 0, and of a symbol
+four-word : (w : ℕ) → w ≡ fourColumns 0x0554404111401505 → (firstThird w ≡ oqpskEven) × (firstThird (w / 256) ≡ oqpskOdd)
+unfolding fourColumns
+four-word w e = (ap (λ (w : ℕ). firstThird w) e, ap (λ (w : ℕ). firstThird (w / 256)) e)
+
 module _ (bits : ℕ) (fits : bits < 2 ^ 64) where
   abbrev chip : ℕ → ℕ
   chip = chipIn (layoutOf oqpsk) bits
@@ -160,15 +164,19 @@ module _ (bits : ℕ) (fits : bits < 2 ^ 64) where
         together : column 3 * 256 + column 1 ≡ laid (λ m. chip (oddAt 4 m)) 16
         together = omega arith
 
-    -- the nearest word
-    pub four-nearest : (e o : ℕ) → e ≡ firstThird t → o ≡ firstThird (t / 256) → (p q : ℕ) → p ≡ oqpskEven → q ≡ oqpskOdd → (keys : List ℕ)
-        → Keyed (apartAt 16 (parted e p) (parted o q)) keys → nearIn keys ≡ nearestIn 1 bits
+    -- the nearest word, by the columns of word 0
+    pub four-nearest : (w : ℕ) → w ≡ fourColumns 0x0554404111401505 → (keys : List ℕ)
+        → Keyed (apartAt 16 (evenParted t w) (oddParted t w)) keys → nearIn keys ≡ nearestIn 1 bits
     unfolding nearestIn
-    four-nearest =
+    four-nearest w e =
         columns-nearest oqpsk sound-oqpsk 16 (omega arith) (evenAt 4) (oddAt 4) oqpskEven oqpskOdd columned-oqpsk bits t evens-laid odds-laid
-        (λ m l. omega arith) (λ m l. omega arith)
+        (λ m l. omega arith) (λ m l. omega arith) w (four-word w e)
 
 -- mode 2
+two-word : (w : ℕ) → w ≡ twoColumns 0x1001110101110000 → (firstThird w ≡ lowbandEven) × (firstThird (w / 256) ≡ lowbandOdd)
+unfolding twoColumns
+two-word w e = (ap (λ (w : ℕ). firstThird w) e, ap (λ (w : ℕ). firstThird (w / 256)) e)
+
 one-column : every (λ v. ltb (turnedPair lowbandOdd v) 256) 8 ≡ true
 unfolding every turnedPair turnedBits
 one-column = refl
@@ -236,17 +244,17 @@ module _ (bits : ℕ) (fits : bits < 2 ^ 64) where
         together : 0 * 256 + column₂ 1 ≡ laid (λ m. chip₂ (oddAt 2 m)) 8
         together = omega arith
 
-    -- a column has eight chips
-    pub two-half : (o q : ℕ) → o ≡ firstThird (t / 256) → q ≡ lowbandOdd → (v : ℕ) → v < 8 → parted o q v ≤ 8
-    two-half o q eo eq v h =
-        rw eq
-        (parted-few 8 o lowbandOdd v (rw (eo ∙ odds₂-laid) (laid-lt (λ m. chip₂ (oddAt 2 m)) (λ m. chips₂ (oddAt 2 m)) 8))
-        (ltb-true _ _ (each (λ v. ltb (turnedPair lowbandOdd v) 256) 8 one-column v h)))
+    module _ (w : ℕ) (e : w ≡ twoColumns 0x1001110101110000) where
+      -- a column has eight chips
+      pub two-half : Half 8 (oddParted t w)
+      two-half v h =
+          rw (two-word w e .1)
+          (parted-few 8 (firstThird (t / 256)) lowbandOdd v (rw odds₂-laid (laid-lt (λ m. chip₂ (oddAt 2 m)) (λ m. chips₂ (oddAt 2 m)) 8))
+          (ltb-true _ _ (each (λ v. ltb (turnedPair lowbandOdd v) 256) 8 one-column v h)))
 
-    -- the nearest word
-    pub two-nearest : (e o : ℕ) → e ≡ firstThird t → o ≡ firstThird (t / 256) → (p q : ℕ) → p ≡ lowbandEven → q ≡ lowbandOdd → (keys : List ℕ)
-        → Keyed (apartAt 8 (parted e p) (parted o q)) keys → nearIn keys ≡ nearestIn 2 bits
-    unfolding nearestIn
-    two-nearest =
-        columns-nearest lowband sound-lowband 8 (omega arith) (evenAt 2) (oddAt 2) lowbandEven lowbandOdd columned-lowband bits t evens₂-laid odds₂-laid
-        (λ m l. omega arith) (λ m l. omega arith)
+      -- the nearest word
+      pub two-nearest : (keys : List ℕ) → Keyed (apartAt 8 (evenParted t w) (oddParted t w)) keys → nearIn keys ≡ nearestIn 2 bits
+      unfolding nearestIn
+      two-nearest =
+          columns-nearest lowband sound-lowband 8 (omega arith) (evenAt 2) (oddAt 2) lowbandEven lowbandOdd columned-lowband bits t evens₂-laid odds₂-laid
+          (λ m l. omega arith) (λ m l. omega arith) w (two-word w e)

@@ -40,6 +40,13 @@ turnedPair pair by = turnedBits pair by + turnedBits (pair / 256) by * 256
 unfoldable pub parted : ℕ → ℕ → ℕ → ℕ
 parted chips pair v = ones (bitXor chips (turnedPair pair v))
 
+-- of columns: in the even chips, and in the odd
+abbrev pub evenParted : ℕ → ℕ → ℕ → ℕ
+evenParted symbol word = parted (firstThird symbol) (firstThird word)
+
+abbrev pub oddParted : ℕ → ℕ → ℕ → ℕ
+oddParted symbol word = parted (firstThird (symbol / 256)) (firstThird (word / 256))
+
 -- the distances of 16 words from those of the even and of the odd chips of eight: the others have
 -- their odd chips inverted
 unfoldable pub apartAt : ℕ → (ℕ → ℕ) → (ℕ → ℕ) → ℕ → ℕ

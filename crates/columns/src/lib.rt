@@ -9,22 +9,14 @@ ghost use mathlib.Core.Path.{_≡_};
 ghost use Prim.Native.Nat.{_≤_, _<_, _^_};
 ghost use lib.Count.{ones};
 ghost use Rattle.codes.specs.Near.{nearestIn};
-ghost use Rattle.columns.specs.Columns.{firstThird, fourColumns, twoColumns, turnedBits, turnedPair, parted, apartAt, Half, Keyed, leastPast, nearIn};
+ghost use Rattle.columns.specs.Columns.{firstThird, fourColumns, twoColumns, turnedBits, turnedPair, evenParted, oddParted, apartAt, Half, Keyed, leastPast, nearIn};
 
 // Mode 1: its 32 chips are four columns. A function for each radio, so that the words' columns are
 // constants in the loop.
 pub fn nearest_of_four(bits: u64) -> u32
     ensures { λ r. ⌜ r ≡ nearestIn 1 bits ⌝ }
 {
-    let t = four(bits);
-    let w = four(codes::OQPSK.word);
-    let k = keys(
-        first_third(t),
-        first_third(t / 256),
-        first_third(w),
-        first_third(w / 256),
-        16,
-    );
+    let k = keys(four(bits), four(codes::OQPSK.word), 16);
     near(&k)
 }
 
@@ -32,15 +24,7 @@ pub fn nearest_of_four(bits: u64) -> u32
 pub fn nearest_of_two(bits: u64) -> u32
     ensures { λ r. ⌜ r ≡ nearestIn 2 bits ⌝ }
 {
-    let t = two(bits);
-    let w = two(codes::LOWBAND.word);
-    let k = keys(
-        first_third(t),
-        first_third(t / 256),
-        first_third(w),
-        first_third(w / 256),
-        8,
-    );
+    let k = keys(two(bits), two(codes::LOWBAND.word), 8);
     near(&k)
 }
 
@@ -71,13 +55,17 @@ fn first_third(t: u64) -> u16
     (t % 256 + t / 0x10000 % 256 * 256) as u16
 }
 
-// Keys of the words, from the even and the odd chips of the symbol and of word 0: the distance
-// above the word's number and one. (Of the number alone the first would be 0, and the back end
-// would leave that word out of its vectors.) `half` is how many odd chips a word has.
-fn keys(evens: u16, odds: u16, even: u16, odd: u16, half: u16) -> [u16; 16]
-    requires { ⌜ (half ≤ 16) × Half half (parted odds odd) ⌝ }
-    ensures { λ r. ⌜ Keyed (apartAt half (parted evens even) (parted odds odd)) r ⌝ }
+// Keys of the words, from the columns of the symbol and of word 0: the distance above the word's
+// number and one. (Of the number alone the first would be 0, and the back end would leave that word
+// out of its vectors.) `half` is how many odd chips a word has.
+fn keys(symbol: u64, word: u64, half: u16) -> [u16; 16]
+    requires { ⌜ (half ≤ 16) × Half half (oddParted symbol word) ⌝ }
+    ensures { λ r. ⌜ Keyed (apartAt half (evenParted symbol word) (oddParted symbol word)) r ⌝ }
 {
+    let evens = first_third(symbol);
+    let odds = first_third(symbol / 256);
+    let even = first_third(word);
+    let odd = first_third(word / 256);
     let mut k = [0u16; 16];
     let mut r: usize = 0;
     while r < 8 {

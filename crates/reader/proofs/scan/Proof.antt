@@ -48,8 +48,7 @@ States =
     three
     (λ calls. lts.At-chips calls reads.Pre reads.Post Inv-chips μ-chips Inv-symbols μ-symbols)
     (λ calls. lts.After-take-symbol calls reads.Pre reads.Post Inv-chips μ-chips Inv-symbols μ-symbols)
-    (λ calls. lts.After-settle calls reads.Pre reads.Post Inv-chips μ-chips Inv-symbols μ-symbols)
-    (
+    (λ calls. lts.After-settle calls reads.Pre reads.Post Inv-chips μ-chips Inv-symbols μ-symbols) (
       phy-of-reads.Asked,
       phy-of-reads.Learnt,
       begin-reads.Asked,
