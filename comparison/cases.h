@@ -51,17 +51,22 @@ struct made {
 /* A buffer that begins like a frame, or not at all like one. `longest` bounds the report. */
 void make_chips(struct made *made, uint32_t longest);
 
-/* The top bit of the length octet. */
-enum { RESERVED_BIT = 128 };
+/* The four forms of a report's frame: as written or with the reserved bit of the length octet set,
+ * and each of the two as it is or inverted in every chip. */
+enum { RESERVED = 1, INVERTED = 2, FORMS = 4 };
 
-/* The frame of a report, with the reserved bit or 0 in its length octet, each symbol as far from
- * its word as is accepted, the last one `more` chips farther. */
-void make_edge_frame(struct made *made, uint32_t mode, uint32_t reserved, const uint8_t *report,
+/* A form of the frame of a report, each symbol as far from its word as is accepted, the last one
+ * `more` chips farther. */
+void make_edge_frame(struct made *made, uint32_t mode, uint32_t form, const uint8_t *report,
     uint32_t n, uint32_t more);
 
 /* The frame of a report with just so many wrong chips in each symbol from one to before another. */
 void make_noisy_frame(struct made *made, uint32_t mode, const uint8_t *report, uint32_t n,
     uint32_t from, uint32_t to, uint32_t wrong);
+
+/* Inverts every chip from one to before another: the front end turns over at the one, and again at
+ * the other. */
+void turn_over(struct made *made, size_t from, size_t to);
 
 /* Inverts that many different chips of a symbol. */
 void invert_some(uint32_t mode, uint8_t *symbol, uint32_t wrong);

@@ -81,6 +81,9 @@ static uint32_t pick_report_length(uint32_t longest)
     return n < longest ? n : longest;
 }
 
+/* The top bit of the length octet. */
+enum { RESERVED_BIT = 128 };
+
 /* The frame before it was disturbed. */
 static uint8_t clean[LERNAZHUP_CHIPS_MAX];
 
@@ -129,7 +132,7 @@ static uint32_t pick_symbol(const struct made *made)
 {
     uint32_t per_octet = reference_per_octet(made->mode), total = symbols_of(made);
 
-    switch (pick(7)) {
+    switch (pick(8)) {
     case 0:
         return total - 1;
     case 1:
@@ -140,6 +143,8 @@ static uint32_t pick_symbol(const struct made *made)
         return 6 * per_octet - 1;
     case 4:
         return made->marked;
+    case 5:
+        return pick(2);
     default:
         return pick(total);
     }
@@ -276,13 +281,29 @@ static void make_noise(struct made *made)
     }
 }
 
-static void invert(struct made *made)
+void turn_over(struct made *made, size_t from, size_t to)
 {
     size_t i;
 
-    for (i = 0; i < made->length; i++)
+    for (i = from; i < to; i++)
         made->chips[i] ^= 1;
-    note("every chip inverted", 0);
+    note("every chip inverted from chip %ld on", (long)from);
+    note("and before %ld", (long)to);
+}
+
+/* The whole frame, one symbol, or all from a symbol or a chip on. */
+static void turn_some(struct made *made)
+{
+    uint32_t size = reference_chips(made->mode), s = pick_symbol(made), kind = pick(100);
+    size_t from = (size_t)s * size;
+
+    made->marked = s;
+    if (kind < 60)
+        turn_over(made, 0, made->length);
+    else if (kind < 75)
+        turn_over(made, from, from + size);
+    else
+        turn_over(made, kind < 90 ? from : from + pick(size), made->length);
 }
 
 static void disturb(struct made *made)
@@ -301,8 +322,6 @@ static void disturb(struct made *made)
         between_words(made);
     else if (kind < 92)
         flatten(made);
-    else if (kind < 94)
-        invert(made);
     if (chance(25))
         disturb_edge(made);
 }
@@ -398,6 +417,9 @@ void make_chips(struct made *made, uint32_t longest)
     } else {
         make_frame(made, longest);
         disturb(made);
+        /* Only mode 0 has two polarities. */
+        if (chance(made->mode == 0 ? 30 : 4))
+            turn_some(made);
     }
     if (chance(25))
         trail(made);
@@ -407,28 +429,30 @@ void make_chips(struct made *made, uint32_t longest)
         spoil(made);
 }
 
-/* The frame of a report, with the reserved bit or 0 in its length octet. */
-static void make_clean_frame(struct made *made, uint32_t mode, uint32_t reserved,
+/* A form of the frame of a report. */
+static void make_clean_frame(struct made *made, uint32_t mode, uint32_t form,
     const uint8_t *report, uint32_t n)
 {
     uint8_t octets[6 + 127] = { 0, 0, 0, 0, 0xA7 };
 
     notes_clear();
     note("frame of %ld octets", n);
-    note("length octet with %ld", reserved);
-    octets[5] = (uint8_t)(n | reserved);
+    note(form & RESERVED ? "reserved bit set" : "reserved bit 0", 0);
+    octets[5] = (uint8_t)(n | (form & RESERVED ? RESERVED_BIT : 0));
     memcpy(octets + 6, report, n);
     made->mode = mode;
     made->n = n;
     made->frame = made->length = reference_spread(mode, octets, 6 + n, made->chips);
+    if (form & INVERTED)
+        turn_over(made, 0, made->length);
 }
 
-void make_edge_frame(struct made *made, uint32_t mode, uint32_t reserved, const uint8_t *report,
+void make_edge_frame(struct made *made, uint32_t mode, uint32_t form, const uint8_t *report,
     uint32_t n, uint32_t more)
 {
     uint32_t last, s;
 
-    make_clean_frame(made, mode, reserved, report, n);
+    make_clean_frame(made, mode, form, report, n);
     note("as many errors as accepted in each symbol", 0);
     note("%ld more in the last", more);
     last = symbols_of(made) - 1;

@@ -25,8 +25,8 @@ static struct made made;
 static uint8_t wanted[LENT_MAX];   /* what a lent buffer must hold after the call */
 
 /* The symbols of a frame that was read, matched one by one: all are near enough to a word, the
- * chips repaired are the sum of their distances, and the gap is the least of theirs. By the library
- * alone. */
+ * chips repaired are the sum of their distances, the gap is the least of theirs, and in mode 0 the
+ * first one's word is the polarity. By the library alone. */
 static void check_symbols(uint32_t mode, lernazhup_reading reading)
 {
     uint32_t size = reference_chips(mode), s;
@@ -35,6 +35,7 @@ static void check_symbols(uint32_t mode, lernazhup_reading reading)
     begin("lernazhup_read, then lernazhup_match", mode, made.chips, made.length, 0);
     want.count = 0;
     want.gap = UINT32_MAX;
+    want.polarity = mode == 0 ? lernazhup_match(mode, made.chips, size).word : 0;
     for (s = 0; s < reading.place; s++) {
         lernazhup_matched symbol = lernazhup_match(mode, made.chips + s * size, size);
 
@@ -49,16 +50,31 @@ static void check_symbols(uint32_t mode, lernazhup_reading reading)
         mismatch("the gap of a frame that was read is less than it can be");
 }
 
+/* In mode 0 the inverse of any chips is read as they are, done with the other polarity. By the
+ * library alone. */
+static void check_inverse(enum profile profile, lernazhup_reading reading, size_t room)
+{
+    turn_over(&made, 0, made.length);
+    begin(compared[profile].read_name, 0, made.chips, made.length, room);
+    if (reading.number == LERNAZHUP_DONE)
+        reading.polarity = 1 - reading.polarity;
+    check_reading(compared[profile].read(0, made.chips, made.length, wanted, room), reading);
+}
+
 static void try_reading(enum profile profile)
 {
     lernazhup_reading reading;
     uint32_t mode;
+    size_t room;
 
     make_chips(&made, 127);
     mode = make_mode(made.mode);
-    reading = check_read(profile, mode, made.chips, made.length, make_room(made.n));
+    room = make_room(made.n);
+    reading = check_read(profile, mode, made.chips, made.length, room);
     if (reading.number == LERNAZHUP_DONE && chance(10))
         check_symbols(mode, reading);
+    if (mode == 0 && chance(10))
+        check_inverse(profile, reading, room);
 }
 
 /* A part in the mode it was made for or in another. */
@@ -75,17 +91,18 @@ static void try_matching(void)
     check_match(mode, part, length);
 }
 
-/* What is written reads back, the checked report with its FCS, whatever stands behind it, and with
- * the gap of a frame as written: by the library alone, without the reference. */
+/* What is written reads back, in mode 0 inverted too, the checked report with its FCS, whatever
+ * stands behind it, and with the gap of a frame as written: by the library alone, without the
+ * reference. */
 static void try_reading_back(enum profile profile, uint32_t mode, const uint8_t *report,
     size_t length, size_t room)
 {
     const struct calls *library = &compared[profile];
     lernazhup_written written;
-    lernazhup_reading want = { LERNAZHUP_DONE, 0, 0, 0, 0 };
+    lernazhup_reading want = { LERNAZHUP_DONE, 0, 0, 0, 0, 0 };
     uint8_t octets[127 + 2], *in, *out;
     uint32_t fcs = lernazhup_fcs(report, length);
-    size_t shown;
+    size_t shown, i;
 
     memcpy(octets, report, length);
     octets[length] = (uint8_t)fcs;
@@ -97,6 +114,9 @@ static void try_reading_back(enum profile profile, uint32_t mode, const uint8_t 
     want.place = written.chips / reference_chips(mode);
     want.n = (uint32_t)length + (profile == CHECKED ? 2 : 0);
     want.gap = LERNAZHUP_BY_MODE(mode, 15, 12, 6);
+    want.polarity = mode == 0 ? pick(2) : 0;
+    for (i = 0; i < written.chips; i++)
+        wanted[i] ^= (uint8_t)want.polarity;
     shown = chance(50) ? written.chips : room;
     in = lend_somewhere(LENT_IN, wanted, shown);
     out = lend_somewhere(LENT_OUT, pick_junk(), want.n);
@@ -275,6 +295,7 @@ static void try_taking(uint32_t mode, uint32_t n)
     record.length = n;
     record.taken = (6 + n) * reference_per_octet(mode);
     record.gap = pick_any();
+    record.polarity = pick_any();
     memcpy(record.octets, pick_junk(), n);
     if (n > 0)
         check_take(record, n - 1);
@@ -288,19 +309,21 @@ static void try_pushing(void)
     size_t size = reference_chips(made.mode), at;
     lernazhup_receiver record = check_start(made.mode);
 
-    for (at = 0; at < made.length; at += size)
+    for (at = 0; record.ended == LERNAZHUP_MORE && at < made.length; at += size)
         record = honest(check_push(record, made.chips + at, size));
+    if (record.ended == LERNAZHUP_MORE)
+        record = honest(check_finish(record));
     if (made.n > 0)
         check_take(record, made.n - 1);
     check_take(record, made.n);
     check_take_is_read(record);
 }
 
-/* A report's frame, with the reserved bit or 0: at the accepted distance, one chip farther in the
- * last symbol, and with rooms at the edge. */
-static void try_frame(uint32_t mode, uint32_t reserved, const uint8_t *report, uint32_t n)
+/* A form of a report's frame: at the accepted distance, one chip farther in the last symbol, and
+ * with rooms at the edge. */
+static void try_frame(uint32_t mode, uint32_t form, const uint8_t *report, uint32_t n)
 {
-    make_edge_frame(&made, mode, reserved, report, n, 0);
+    make_edge_frame(&made, mode, form, report, n, 0);
     check_read(PLAIN, mode, made.chips, made.length, n);
     check_read(PLAIN, mode, made.chips, made.length, n + 1);
     if (n > 0)
@@ -308,20 +331,20 @@ static void try_frame(uint32_t mode, uint32_t reserved, const uint8_t *report, u
     check_read(PLAIN, mode, made.chips, made.length - 1, n);
     if (n < 4 || n > 125)
         try_pushing();
-    make_edge_frame(&made, mode, reserved, report, n, 1);
+    make_edge_frame(&made, mode, form, report, n, 1);
     check_read(PLAIN, mode, made.chips, made.length, 127);
 }
 
 /* Every length, in every mode. */
 static void try_every_length(void)
 {
-    uint32_t mode, n, each;
+    uint32_t mode, n, each, form;
 
     for (each = 0; each < MODES * 128; each++) {
         mode = each % MODES;
         n = each / MODES;
-        try_frame(mode, 0, pick_junk(), n);
-        try_frame(mode, RESERVED_BIT, pick_junk(), n);
+        for (form = 0; form < FORMS; form++)
+            try_frame(mode, form, pick_junk(), n);
         notes_clear();
         check_write(PLAIN, mode, pick_junk(), n, made.frame);
         check_write(PLAIN, mode, pick_junk(), n, made.frame - 1);
@@ -330,17 +353,18 @@ static void try_every_length(void)
     }
 }
 
-/* A report's check, its frame with the reserved bit set, and its frame as the plain writer makes
- * it, with as many errors as accepted and one more: the checked reader with a room that is too
- * short, with one that isn't, and where a later symbol is lost. */
+/* A report's check, and its frame in each form, with as many errors as accepted and, as the plain
+ * writer makes it, with one more: the checked reader with a room that is too short, with one that
+ * isn't, and where a later symbol is lost. */
 static void try_checked_reading(uint32_t mode, const uint8_t *report, uint32_t n)
 {
+    uint32_t form;
+
     check_check(report, n);
-    make_edge_frame(&made, mode, RESERVED_BIT, report, n, 0);
-    check_read(CHECKED, mode, made.chips, made.length, n);
-    make_edge_frame(&made, mode, 0, report, n, 0);
-    check_read(CHECKED, mode, made.chips, made.length, n);
-    check_read(CHECKED, mode, made.chips, made.length, n + 1);
+    for (form = 0; form < FORMS; form++) {
+        make_edge_frame(&made, mode, form, report, n, 0);
+        check_read(CHECKED, mode, made.chips, made.length, n + form % 2);
+    }
     make_edge_frame(&made, mode, 0, report, n, 1);
     check_read(CHECKED, mode, made.chips, made.length, 127);
     if (n > 0)
@@ -430,18 +454,31 @@ static void try_every_checked_writing(void)
 
 enum { NOISY = 3 };   /* octets of the frames with noise */
 
-/* A frame with so many wrong chips in each symbol from one to before another, by each way to read
- * it. */
-static void try_noise(uint32_t mode, uint32_t from, uint32_t to, uint32_t wrong)
+/* So many, with their FCS. */
+static const uint8_t *pick_noisy(void)
 {
-    uint8_t report[NOISY];
+    static uint8_t report[NOISY];
 
     pick_bytes(report, NOISY);
     put_fcs(report, NOISY);
-    make_noisy_frame(&made, mode, report, NOISY, from, to, wrong);
-    check_read(PLAIN, mode, made.chips, made.length, NOISY);
-    check_read(CHECKED, mode, made.chips, made.length, NOISY);
+    return report;
+}
+
+/* The frame in hand, by each way to read it. */
+static void try_each_way(void)
+{
+    check_read(PLAIN, made.mode, made.chips, made.length, made.n);
+    check_read(CHECKED, made.mode, made.chips, made.length, made.n);
     try_pushing();
+}
+
+/* A frame with so many wrong chips in each symbol from one to before another, and its inverse. */
+static void try_noise(uint32_t mode, uint32_t from, uint32_t to, uint32_t wrong)
+{
+    make_noisy_frame(&made, mode, pick_noisy(), NOISY, from, to, wrong);
+    try_each_way();
+    turn_over(&made, 0, made.length);
+    try_each_way();
 }
 
 /* Each number of wrong chips up to one more than accepted: in all symbols of a frame, and in each
@@ -458,6 +495,32 @@ static void try_every_noise(void)
             for (s = 0; s < symbols; s++)
                 try_noise(mode, s, s + 1, wrong);
         }
+}
+
+/* A frame in a form that can be read, turned over from one symbol to before another. */
+static void try_turning(uint32_t mode, uint32_t from, uint32_t to)
+{
+    size_t size = reference_chips(mode);
+    uint32_t form = pick(mode == 0 ? FORMS : INVERTED);
+
+    make_edge_frame(&made, mode, form, pick_noisy(), NOISY, 0);
+    turn_over(&made, from * size, to * size);
+    try_each_way();
+}
+
+/* From each symbol of a frame on, and each symbol alone. */
+static void try_every_turning(void)
+{
+    uint32_t mode, s;
+
+    for (mode = 0; mode < MODES; mode++) {
+        uint32_t symbols = (6 + NOISY) * reference_per_octet(mode);
+
+        for (s = 0; s < symbols; s++) {
+            try_turning(mode, s, symbols);
+            try_turning(mode, s, s + 1);
+        }
+    }
 }
 
 /* ---- Every part ---- */
@@ -541,6 +604,64 @@ static void try_every_part(void)
         if (reference_chips(mode) <= 16)
             try_every_symbol(mode);
     }
+}
+
+/* ---- What a record may hold of the polarity ---- */
+
+/* An open record, finished, taken, and pushed symbols: each of two words with as many wrong chips
+ * as accepted and one more, flat chips, and one with a byte that isn't a chip. */
+static void try_open_record(lernazhup_receiver record)
+{
+    uint32_t size = reference_chips(record.mode), each;
+    uint8_t part[LERNAZHUP_SYMBOL_MAX];
+
+    check_finish(record);
+    check_take(record, 127);
+    for (each = 0; each < 2; each++) {
+        memcpy(part, reference_word(record.mode, each), size);
+        invert_some(record.mode, part, reference_limit(record.mode));
+        check_push(record, part, size);
+        memcpy(part, reference_word(record.mode, each), size);
+        invert_some(record.mode, part, reference_limit(record.mode) + 1);
+        check_push(record, part, size);
+        memset(part, (int)each, size);
+        check_push(record, part, size);
+        part[pick(size)] = 2;
+        check_push(record, part, size);
+    }
+}
+
+/* A record of two octets, ended well and by each other number up to 35. */
+static void try_ended_record(lernazhup_receiver record)
+{
+    record.length = 2;
+    record.taken = 8 * reference_per_octet(record.mode);
+    for (record.ended = 0; record.ended < 36; record.ended++) {
+        check_take(record, 2);
+        check_take(record, 1);
+        check_finish(record);
+    }
+}
+
+/* In each mode: polarity and last symbol such as push leaves them and others, with none and a few
+ * symbols taken. */
+static void try_every_held_polarity(void)
+{
+    static const uint32_t held[] = { 0, 1, 2, 3, 0x80000000, UINT32_MAX };
+    enum { HELD = sizeof held / sizeof held[0] };
+    uint32_t mode, each;
+
+    notes_clear();
+    for (mode = 0; mode < MODES; mode++)
+        for (each = 0; each < HELD * HELD; each++) {
+            lernazhup_receiver record = reference_start(mode).receiver;
+
+            record.polarity = held[each / HELD];
+            record.last = held[each % HELD];
+            try_ended_record(record);
+            for (record.taken = 0; record.taken < 3; record.taken++)
+                try_open_record(record);
+        }
 }
 
 /* ---- Lengths that don't fit in 32 bits ---- */
@@ -681,7 +802,9 @@ int main(int argc, char **argv)
     try_every_wrong_bit();
     try_every_checked_writing();
     try_every_noise();
+    try_every_turning();
     try_every_part();
+    try_every_held_polarity();
     try_huge_lengths();
     print_counts();
     /* A test that never met a number says nothing on it. Few cases can't be asked for all. */

@@ -62,6 +62,7 @@ static const char *repeat;
 static uint64_t cases, baseline_cases, fcs_cases;
 static uint64_t met[FUNCTIONS][ROWS][COLUMNS];
 static uint64_t done_lengths[FUNCTIONS][MODES][128];
+static uint64_t done_polarities[FUNCTIONS][2];   /* of mode 0 */
 
 static struct {
     const char *name;
@@ -80,8 +81,9 @@ static void print_record(const char *title, const lernazhup_receiver *r)
     while (shown > 0 && r->octets[shown - 1] == 0)
         shown--;
     printf("  %s: mode %" PRIu32 ", ended %" PRIu32 ", taken %" PRIu32 ", length %" PRIu32
-        ", count %" PRIu32 ", last %" PRIu32 ", octet %" PRIu32 ", gap %" PRIu32 ", octets",
-        title, r->mode, r->ended, r->taken, r->length, r->count, r->last, r->octet, r->gap);
+        ", count %" PRIu32 ", last %" PRIu32 ", octet %" PRIu32 ", gap %" PRIu32
+        ", polarity %" PRIu32 ", octets", title, r->mode, r->ended, r->taken, r->length, r->count,
+        r->last, r->octet, r->gap, r->polarity);
     for (i = 0; i < shown; i++)
         printf(" %02x", r->octets[i]);
     printf(shown < 127 ? " and zeros\n" : "\n");
@@ -180,6 +182,13 @@ void count_case(enum function function, uint32_t mode, uint32_t number)
     met[function][row][number <= 16 ? number : number == 34 ? FORGED : OTHER]++;
 }
 
+/* A reading that was done: its polarity in mode 0. */
+static void count_polarity(enum function function, uint32_t mode, lernazhup_reading reading)
+{
+    if (mode == 0 && reading.number == LERNAZHUP_DONE)
+        done_polarities[function][reading.polarity]++;
+}
+
 uint64_t cases_so_far(void)
 {
     return cases;
@@ -228,15 +237,16 @@ void check_lent(enum lent_slot slot, const char *what, const uint8_t *bytes)
 
 void check_reading(lernazhup_reading got, lernazhup_reading want)
 {
-    char words[200];
+    char words[220];
 
     if (got.number == want.number && got.place == want.place && got.n == want.n
-        && got.count == want.count && got.gap == want.gap)
+        && got.count == want.count && got.gap == want.gap && got.polarity == want.polarity)
         return;
-    snprintf(words, sizeof words, "number, place, n, count, gap are %" PRIu32 " %" PRIu32
-        " %" PRIu32 " %" PRIu32 " %" PRIu32 " and should be %" PRIu32 " %" PRIu32 " %" PRIu32
-        " %" PRIu32 " %" PRIu32, got.number, got.place, got.n, got.count, got.gap,
-        want.number, want.place, want.n, want.count, want.gap);
+    snprintf(words, sizeof words, "number, place, n, count, gap, polarity are %" PRIu32 " %" PRIu32
+        " %" PRIu32 " %" PRIu32 " %" PRIu32 " %" PRIu32 " and should be %" PRIu32 " %" PRIu32
+        " %" PRIu32 " %" PRIu32 " %" PRIu32 " %" PRIu32, got.number, got.place, got.n, got.count,
+        got.gap, got.polarity, want.number, want.place, want.n, want.count, want.gap,
+        want.polarity);
     mismatch(words);
 }
 
@@ -251,6 +261,7 @@ lernazhup_reading check_read(enum profile profile, uint32_t mode, const uint8_t 
     memcpy(wanted, before, room);
     want = reference[profile].read(mode, chips, length, wanted, room);
     count_case(function, mode, want.number);
+    count_polarity(function, mode, want);
     if (want.number == LERNAZHUP_DONE)
         done_lengths[function][mode][want.n]++;
     for (i = 0; i < COMPARED; i++) {
@@ -347,6 +358,7 @@ static const char *other_field(const lernazhup_receiver *a, const lernazhup_rece
         : a->taken != b->taken ? "taken" : a->length != b->length ? "length"
         : a->count != b->count ? "count" : a->last != b->last ? "last"
         : a->octet != b->octet ? "octet" : a->gap != b->gap ? "gap"
+        : a->polarity != b->polarity ? "polarity"
         : memcmp(a->octets, b->octets, sizeof a->octets) != 0 ? "octets" : NULL;
 }
 
@@ -408,6 +420,7 @@ lernazhup_reading check_take(lernazhup_receiver record, size_t room)
     memcpy(wanted, before, room);
     want = reference_take(record, wanted, room);
     count_case(TAKE, record.mode, want.number);
+    count_polarity(TAKE, record.mode, want);
     begin_on_record("lernazhup_take", &record, NULL, 0, room);
     out = lend_somewhere(LENT_OUT, before, room);
     check_reading(lernazhup_take(record, out, room), want);
@@ -524,11 +537,26 @@ static int lengths_met(void)
     return all;
 }
 
+static int polarities_met(void)
+{
+    static const enum function functions[] = { READ, TAKE, READ_CHECKED };
+    int polarity, all = 1;
+    size_t i;
+
+    for (i = 0; i < sizeof functions / sizeof functions[0]; i++)
+        for (polarity = 0; polarity < 2; polarity++)
+            if (done_polarities[functions[i]][polarity] == 0) {
+                printf("%s never told polarity %d\n", function_names[functions[i]], polarity);
+                all = 0;
+            }
+    return all;
+}
+
 int all_met(void)
 {
-    int numbers = numbers_met(), lengths = lengths_met();
+    int numbers = numbers_met(), lengths = lengths_met(), polarities = polarities_met();
 
-    return numbers && lengths;
+    return numbers && lengths && polarities;
 }
 
 /* The cases of a function that were answered with the number of a column. */
@@ -574,6 +602,8 @@ void print_counts(void)
         printf(" %d: %" PRIu64 ",", mode, in_row(mode));
     printf(" others: %" PRIu64 ", none: %" PRIu64 "\n", in_row(NO_RADIO),
         in_row(NO_MODE) + fcs_cases);
+    printf("inverted      %8" PRIu64 " frames read, %" PRIu64 " by take, %" PRIu64 " checked\n",
+        done_polarities[READ][1], done_polarities[TAKE][1], done_polarities[READ_CHECKED][1]);
     printf("lent          %8" PRIu64 " buffers that end at an unmapped page, %" PRIu64
         " that begin at one, %" PRIu64 " between guard bytes, %" PRIu64 " null\n",
         lent_at[LENT_AT_END], lent_at[LENT_AT_START], lent_at[LENT_BETWEEN], lent_at[LENT_NULL]);

@@ -80,12 +80,12 @@ uint64_t cases_so_far(void);
  * the same cases. */
 void check_open(const char *again);
 
-/* Prints how many cases of each function there were, by the number given back, and how many of each
- * mode. */
+/* Prints how many cases of each function there were, by the number given back, how many of each
+ * mode, and how many readings of inverted frames. */
 void print_counts(void);
 
 /* Whether in each mode each number was met that a function can give, and each length written and
- * read; prints what wasn't. */
+ * read, and in mode 0 each polarity; prints what wasn't. */
 int all_met(void);
 
 #endif

@@ -2,7 +2,8 @@
  * The reference held to the documents' own numbers: the rows of the code tables as printed, the
  * facts that the work stands on, the bench sheet A to L, what 01 gives for running and comparing,
  * and what 02 gives for the third radio, the frame check, with the published vectors of the FCS,
- * the reserved bit and the gap; and what the header says of gaps.
+ * the reserved bit, the gap and the polarity; and what the header says of gaps and of a front end
+ * that turns over.
  */
 #include "printed_facts.h"
 
@@ -101,30 +102,39 @@ static void words(void)
                 reference_push(reference_start(a).receiver, flat[b], reference_chips(a)).number == LERNAZHUP_LOST);
 }
 
-/* What push answers to the word for 0 with its first chips inverted, at symbol 0; FORGED, which it
- * never answers here, where it goes on with another count than theirs. */
-static uint32_t pushed(uint32_t mode, uint32_t inverted)
+/* Push of the word for 0 with its first chips inverted, at symbol 0. */
+static lernazhup_step pushed(uint32_t mode, uint32_t inverted)
 {
     uint8_t part[32];
     uint32_t c;
-    lernazhup_step step;
 
     memcpy(part, reference_word(mode, 0), reference_chips(mode));
     for (c = 0; c < inverted; c++)
         part[c] ^= 1;
-    step = reference_push(reference_start(mode).receiver, part, reference_chips(mode));
-    return step.number == LERNAZHUP_MORE && step.receiver.count != inverted ? LERNAZHUP_FORGED : step.number;
+    return reference_push(reference_start(mode).receiver, part, reference_chips(mode));
+}
+
+static int goes_on(lernazhup_step step, uint32_t count, uint32_t polarity)
+{
+    return step.number == LERNAZHUP_MORE && step.receiver.count == count
+        && step.receiver.polarity == polarity;
+}
+
+/* Lost, with no polarity settled. */
+static int is_lost(lernazhup_step step)
+{
+    return step.number == LERNAZHUP_LOST && step.receiver.polarity == 0;
 }
 
 static void single_symbols(void)
 {
-    fact("G", pushed(1, 5) == LERNAZHUP_MORE);
-    fact("H", pushed(1, 6) == LERNAZHUP_LOST);
-    fact("I", pushed(0, 6) == LERNAZHUP_MORE);
-    fact("J", pushed(0, 7) == LERNAZHUP_LOST && pushed(0, 8) == LERNAZHUP_LOST);
-    fact("J: nine inverted read as 1", pushed(0, 9) == LERNAZHUP_PREAMBLE);
-    fact("two inverted, mode 2", pushed(2, 2) == LERNAZHUP_MORE);
-    fact("three inverted, mode 2", pushed(2, 3) == LERNAZHUP_LOST);
+    fact("G", goes_on(pushed(1, 5), 5, 0));
+    fact("H", is_lost(pushed(1, 6)));
+    fact("I", goes_on(pushed(0, 6), 6, 0));
+    fact("J", is_lost(pushed(0, 7)) && is_lost(pushed(0, 8)));
+    fact("J: nine inverted read as 1", goes_on(pushed(0, 9), 6, 1));
+    fact("two inverted, mode 2", goes_on(pushed(2, 2), 2, 0));
+    fact("three inverted, mode 2", is_lost(pushed(2, 3)));
 }
 
 static int is_matched(lernazhup_matched got, uint32_t number, uint32_t word, uint32_t nearest,
@@ -189,14 +199,20 @@ static void matched_words(void)
 static int is_refused(lernazhup_reading got, uint32_t number, uint32_t place)
 {
     return got.number == number && got.place == place && got.n == 0 && got.count == 0
-        && got.gap == 0;
+        && got.gap == 0 && got.polarity == 0;
 }
 
-/* A frame as written: nothing repaired, and a gap of the least distance. */
-static int is_clean(lernazhup_reading got, uint32_t mode, uint32_t place, uint32_t n)
+/* A frame as written, or that inverted: nothing repaired, and a gap of the least distance. */
+static int is_whole(lernazhup_reading got, uint32_t mode, uint32_t place, uint32_t n,
+    uint32_t polarity)
 {
     return got.number == LERNAZHUP_DONE && got.place == place && got.n == n && got.count == 0
-        && got.gap == least_apart(mode);
+        && got.gap == least_apart(mode) && got.polarity == polarity;
+}
+
+static int is_clean(lernazhup_reading got, uint32_t mode, uint32_t place, uint32_t n)
+{
+    return is_whole(got, mode, place, n, 0);
 }
 
 static uint8_t chips[LERNAZHUP_CHIPS_MAX];
@@ -236,7 +252,7 @@ static void lengths(uint32_t mode, uint32_t empty, uint32_t octet, uint32_t long
 static void readings(void)
 {
     uint8_t room[127];
-    uint32_t mode, i;
+    uint32_t mode;
 
     for (mode = 0; mode < MODES; mode++) {
         lernazhup_reading reading = reference_read(mode, chips, 0, room, 127);
@@ -253,10 +269,6 @@ static void readings(void)
 
         fact("cut, modes 1 and 2", is_refused(reading, LERNAZHUP_RUNOUT, 265));
     }
-    reference_write(0, report, 5, chips, sizeof chips);
-    for (i = 0; i < 1320; i++)
-        chips[i] ^= 1;
-    fact("inverted", is_refused(reference_read(0, chips, 1320, room, 127), LERNAZHUP_PREAMBLE, 0));
     reference_write(1, report, 0, chips, sizeof chips);
     fact("bench, mode 0", is_refused(reference_read(0, chips, 384, room, 127), LERNAZHUP_LOST, 1));
     fact("bench, mode 1", is_clean(reference_read(1, chips, 384, room, 127), 1, 12, 0));
@@ -311,13 +323,21 @@ static void worst_symbols(void)
     }
 }
 
-/* The frame of the first five octets with the reserved bit set. */
-static size_t spread_reserved(uint32_t mode)
-{
-    uint8_t octets[6 + 5] = { 0, 0, 0, 0, 0xA7, 0x85 };
+/* The frame of the first five octets, with the reserved bit or 0: its octets and its chips. */
+struct five { uint8_t octets[6 + 5]; };
 
-    memcpy(octets + 6, report, 5);
-    return reference_spread(mode, octets, sizeof octets, chips);
+static struct five five_with(uint32_t reserved)
+{
+    struct five five = { { 0, 0, 0, 0, 0xA7, 5 } };
+
+    five.octets[5] |= (uint8_t)reserved;
+    memcpy(five.octets + 6, report, 5);
+    return five;
+}
+
+static size_t spread_five(uint32_t mode, struct five five)
+{
+    return reference_spread(mode, five.octets, sizeof five.octets, chips);
 }
 
 /* A frame with the reserved bit set reads as the one without. In mode 0 it differs from it in every
@@ -334,7 +354,7 @@ static void reserved_bit(void)
         lernazhup_reading reading;
 
         reference_write(mode, report, 5, plain, sizeof plain);
-        reading = reference_read(mode, chips, spread_reserved(mode), room, 5);
+        reading = reference_read(mode, chips, spread_five(mode, five_with(128)), room, 5);
         fact("reserved bit", is_clean(reading, mode, symbols, 5));
         fact("reserved bit", memcmp(room, report, 5) == 0);
         reading = reference_read(mode, chips, sizeof chips, room, 4);
@@ -345,6 +365,99 @@ static void reserved_bit(void)
             fact("reserved bit, chips", (places > 0) == (mode == 0 ? s >= last : s == last));
             fact("reserved bit, mode 0", mode != 0 || places == 0 || places == size);
         }
+    }
+}
+
+/* Inverts the chips from one place to before another. */
+static void invert(size_t from, size_t to)
+{
+    for (; from < to; from++)
+        chips[from] ^= 1;
+}
+
+/* Whether the chips are those of a mode 0 frame with the chain started from a bit. */
+static int is_chain(struct five five, uint32_t encoded)
+{
+    uint32_t s;
+
+    for (s = 0; s < 88; s++) {
+        encoded ^= five.octets[s / 8] >> s % 8 & 1;
+        if (apart(chips + 15 * s, reference_word(0, encoded), 15) != 0)
+            return 0;
+    }
+    return 1;
+}
+
+/* Inverted in every chip a mode 0 frame, with the reserved bit and without, is that of the chain
+ * started from 1, and reads as before with polarity 1; in modes 1 and 2 symbol 0 is lost. */
+static void inverted(uint32_t reserved)
+{
+    struct five five = five_with(reserved);
+    uint8_t room[127];
+    uint32_t mode;
+
+    spread_five(0, five);
+    fact("chain from 0", is_chain(five, 0));
+    invert(0, 1320);
+    fact("chain from 1", is_chain(five, 1));
+    fact("inverted", is_whole(reference_read(0, chips, 1320, room, 127), 0, 88, 5, 1));
+    fact("inverted", memcmp(room, report, 5) == 0);
+    for (mode = 1; mode < MODES; mode++) {
+        size_t length = spread_five(mode, five);
+
+        invert(0, length);
+        fact("inverted, modes 1 and 2",
+            is_refused(reference_read(mode, chips, length, room, 127), LERNAZHUP_LOST, 0));
+    }
+}
+
+/* What is read of it in mode 0 where the chips from symbol s on are inverted: one raw bit is the
+ * other. In the preamble that is 7, in the start octet 8, at the reserved bit nothing, in the
+ * report another one; in the length octet a shorter report, or one that there is no room for. */
+static int is_turned(lernazhup_reading got, const uint8_t *room, uint32_t s)
+{
+    struct five five = five_with(0);
+
+    if (s < 32)
+        return is_refused(got, LERNAZHUP_PREAMBLE, s);
+    if (s < 40)
+        return is_refused(got, LERNAZHUP_BADSTART, 39);
+    five.octets[s / 8] ^= (uint8_t)(1 << s % 8);
+    five.octets[5] %= 128;
+    if (five.octets[5] > 5)
+        return is_refused(got, LERNAZHUP_NOROOM, 47);
+    return is_clean(got, 0, 8 * (6u + five.octets[5]), five.octets[5])
+        && memcmp(room, five.octets + 6, five.octets[5]) == 0;
+}
+
+static void turned_over(void)
+{
+    uint8_t room[5];
+    uint32_t s;
+
+    spread_five(0, five_with(0));
+    for (s = 1; s < 88; s++) {
+        invert(15 * s, 1320);
+        fact("turned over", is_turned(reference_read(0, chips, 1320, room, 5), room, s));
+        invert(15 * s, 1320);
+    }
+}
+
+/* Only symbol 0 settles the polarity, whatever the others say: turned over alone it makes the next
+ * one 7. Flat it is lost. */
+static void first_symbol(void)
+{
+    uint8_t room[5];
+    uint32_t b;
+
+    spread_five(0, five_with(0));
+    invert(0, 15);
+    fact("symbol 0 alone turned over",
+        is_refused(reference_read(0, chips, 1320, room, 5), LERNAZHUP_PREAMBLE, 1));
+    for (b = 0; b < 2; b++) {
+        memcpy(chips, flat[b], 15);
+        fact("symbol 0 lost",
+            is_refused(reference_read(0, chips, 1320, room, 5), LERNAZHUP_LOST, 0));
     }
 }
 
@@ -361,7 +474,8 @@ static void no_radio(void)
 
         fact("1, write", written.number == LERNAZHUP_BADMODE);
         fact("1, read", is_refused(reading, LERNAZHUP_BADMODE, 0));
-        fact("1, start", started.number == LERNAZHUP_BADMODE && started.receiver.gap == UINT32_MAX);
+        fact("1, start", started.number == LERNAZHUP_BADMODE && started.receiver.gap == UINT32_MAX
+            && started.receiver.polarity == 0);
     }
 }
 
@@ -456,6 +570,10 @@ int facts_hold(void)
     put_right(2, 2);
     worst_symbols();
     reserved_bit();
+    inverted(0);
+    inverted(128);
+    turned_over();
+    first_symbol();
     no_radio();
     checks();
     checked_frames();

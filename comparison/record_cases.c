@@ -83,7 +83,7 @@ static uint32_t wild_number(void)
     return chance(60) ? numbers[pick(sizeof numbers / sizeof numbers[0])] : any >> pick(32);
 }
 
-enum { FIELDS = 8 };
+enum { FIELDS = 9 };
 
 static uint32_t *field_of(lernazhup_receiver *record, uint32_t which)
 {
@@ -97,6 +97,7 @@ static uint32_t *field_of(lernazhup_receiver *record, uint32_t which)
     fields[5] = &record->last;
     fields[6] = &record->octet;
     fields[7] = &record->gap;
+    fields[8] = &record->polarity;
     return fields[which];
 }
 
@@ -136,7 +137,7 @@ static uint32_t edge_taken(uint32_t per_octet, uint32_t limit, uint32_t length)
 {
     uint32_t total = (6 + length) * per_octet, octet = pick(7);
 
-    switch (pick(9)) {
+    switch (pick(10)) {
     case 0:
         return total;
     case 1:
@@ -151,6 +152,8 @@ static uint32_t edge_taken(uint32_t per_octet, uint32_t limit, uint32_t length)
         return 0xFFFFFFFF / limit + pick(total);
     case 6:
         return pick((length + 1) * per_octet) + 5 * per_octet;
+    case 7:
+        return 0;
     default:
         return total - 1;
     }
@@ -176,6 +179,7 @@ static lernazhup_receiver at_edges(void)
     /* Octets that the right symbol makes 0xA7, or the top bit of which will be 0. */
     record.octet = chance(40) ? (record.mode == 0 ? 0x4E : 0x70) + pick(2) : chance(50) ? pick(256) : wild_number();
     record.gap = held_gap();
+    record.polarity = chance(60) ? pick(2) : wild_number();
     pick_bytes(record.octets, sizeof record.octets);
     if (chance(10))
         record.mode = make_bad_mode();

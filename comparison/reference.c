@@ -1,12 +1,13 @@
 /*
- * The reference: document 01 in plain C, with document 02's third radio, frame check, reserved bit
- * and gap.
+ * The reference: document 01 in plain C, with document 02's third radio, frame check, reserved bit,
+ * gap and polarity.
  * It is meant for being checked by eye with 01 in the other hand, so it follows 01's words and
  * order and does nothing for speed: each symbol is compared with every word, chip by chip.
  *
- * The reader keeps the raw symbols and reads octets off them, and likewise keeps the gaps and takes
- * the least in the end; push works on the record, as the header describes it. The two share only
- * what one symbol is (match, gap_of, raw_of), so that their agreement says something.
+ * The reader keeps what the symbols read as, which in mode 0 begins with the polarity, and the raw
+ * symbols, and reads octets off these; likewise it keeps the gaps and takes the least in the end.
+ * Push works on the record, as the header describes it. The two share only what one symbol is
+ * (match, gap_of, raw_of), so that their agreement says something.
  */
 #include "reference.h"
 
@@ -210,21 +211,23 @@ lernazhup_written reference_write(uint32_t mode, const uint8_t *report, size_t r
 
 /* ---- The reader ---- */
 
-static lernazhup_reading done(uint32_t place, uint32_t n, uint32_t count, uint32_t gap)
+static lernazhup_reading done(uint32_t place, uint32_t n, uint32_t count, uint32_t gap,
+    uint32_t polarity)
 {
-    lernazhup_reading answer = { LERNAZHUP_DONE, 0, 0, 0, 0 };
+    lernazhup_reading answer = { LERNAZHUP_DONE, 0, 0, 0, 0, 0 };
 
     answer.place = place;
     answer.n = n;
     answer.count = count;
     answer.gap = gap;
+    answer.polarity = polarity;
     return answer;
 }
 
-/* A refusal: n, count and gap are 0. */
+/* A refusal: n, count, gap and polarity are 0. */
 static lernazhup_reading refused(uint32_t number, uint32_t place)
 {
-    lernazhup_reading answer = done(place, 0, 0, 0);
+    lernazhup_reading answer = done(place, 0, 0, 0, 0);
 
     answer.number = number;
     return answer;
@@ -254,7 +257,7 @@ static uint32_t least(const uint32_t *gaps, uint32_t symbols)
 lernazhup_reading reference_read(uint32_t mode, const uint8_t *chips, size_t chips_len, uint8_t *report, size_t report_len)
 {
     const struct radio *radio = radio_of(mode);
-    uint32_t raw[SYMBOLS_MAX], gaps[SYMBOLS_MAX], encoded = 0, count = 0, n = 0, s, k;
+    uint32_t values[SYMBOLS_MAX], raw[SYMBOLS_MAX], gaps[SYMBOLS_MAX], count = 0, n = 0, s, k;
 
     if (radio == NULL)
         return refused(LERNAZHUP_BADMODE, 0);
@@ -271,8 +274,9 @@ lernazhup_reading reference_read(uint32_t mode, const uint8_t *chips, size_t chi
             return refused(LERNAZHUP_LOST, s);
         count += symbol.nearest;
         gaps[s] = gap_of(symbol);
-        raw[s] = raw_of(radio, encoded, symbol.word);
-        encoded = symbol.word;
+        values[s] = symbol.word;
+        /* The chain starts from what symbol 0 reads as. */
+        raw[s] = raw_of(radio, values[s > 0 ? s - 1 : 0], values[s]);
         if (s < PREAMBLE_OCTETS * radio->per_octet && raw[s] != 0)
             return refused(LERNAZHUP_PREAMBLE, s);
         if (s + 1 == 5 * radio->per_octet && octet_of(radio, raw, 4) != START_OCTET)
@@ -286,7 +290,7 @@ lernazhup_reading reference_read(uint32_t mode, const uint8_t *chips, size_t chi
     }
     for (k = 0; k < n; k++)
         report[k] = (uint8_t)octet_of(radio, raw, HEAD_OCTETS + k);
-    return done(s, n, count, least(gaps, s));
+    return done(s, n, count, least(gaps, s), radio->bits == 1 ? values[0] : 0);
 }
 
 /* ---- The stepping receiver ---- */
@@ -295,7 +299,8 @@ lernazhup_reading reference_read(uint32_t mode, const uint8_t *chips, size_t chi
  * Document 01 doesn't say what a record keeps of the octet in hand, which shows where push is given
  * a forged record. Here and in the library `last` is the value of the last symbol taken and `octet`
  * holds the last eight raw bits, the newest at the top. `gap` is the least so far, whatever was
- * held before, and no test of 34 looks at it.
+ * held before. In mode 0 symbol 0 sets `polarity`, and the chain starts from it, whatever was held
+ * in `polarity` and `last`; no other symbol touches it. No test of 34 looks at gap or polarity.
  */
 
 static lernazhup_step step(uint32_t number, lernazhup_receiver r)
@@ -347,6 +352,7 @@ static lernazhup_step take_symbol(const struct radio *radio, lernazhup_receiver 
     const uint8_t *part)
 {
     uint32_t next = r.taken + 1, per_octet = radio->per_octet, raw, octet;
+    int settles = radio->bits == 1 && r.taken == 0;
     lernazhup_matched symbol;
 
     if (has_bad_byte(part, radio->chips))
@@ -354,7 +360,7 @@ static lernazhup_step take_symbol(const struct radio *radio, lernazhup_receiver 
     symbol = match(radio, part);
     if (symbol.number == LERNAZHUP_LOST)
         return ended_by(LERNAZHUP_LOST, r);
-    raw = raw_of(radio, r.last, symbol.word);
+    raw = raw_of(radio, settles ? symbol.word : r.last, symbol.word);
     /* Symbols come lowest first: each goes in at the top and pushes the ones before it down. */
     octet = (r.octet % 256 >> radio->bits) + (raw << (8 - radio->bits));
     if (r.taken < PREAMBLE_OCTETS * per_octet && raw != 0)
@@ -365,6 +371,8 @@ static lernazhup_step take_symbol(const struct radio *radio, lernazhup_receiver 
     r.count += symbol.nearest;
     if (gap_of(symbol) < r.gap)
         r.gap = gap_of(symbol);
+    if (settles)
+        r.polarity = symbol.word;
     r.last = symbol.word;
     r.octet = octet;
     if (next == 6 * per_octet)
@@ -409,7 +417,7 @@ lernazhup_reading reference_take(lernazhup_receiver r, uint8_t *report, size_t r
         return refused(LERNAZHUP_NOROOM, r.taken);
     for (k = 0; k < r.length; k++)
         report[k] = r.octets[k];
-    return done(r.taken, r.length, r.count, r.gap);
+    return done(r.taken, r.length, r.count, r.gap, r.mode == 0 ? r.polarity % 2 : 0);
 }
 
 /* ---- The frame check ---- */

@@ -1,8 +1,8 @@
 /*
- * The reference: document 01 in plain C, with the third radio, the frame check, the reserved bit
- * and the gap of document 02 and the signatures of the library. The differential test compares the
- * library with it. It was written from the documents and the header, without sight of the library's
- * source.
+ * The reference: document 01 in plain C, with the third radio, the frame check, the reserved bit,
+ * the gap and the polarity of document 02 and the signatures of the library. The differential test
+ * compares the library with it. It was written from the documents and the header, without sight of
+ * the library's source.
  */
 #ifndef REFERENCE_H
 #define REFERENCE_H

@@ -1,8 +1,9 @@
 /* An example gateway, in the checked profile: a report goes out as chips with its FCS behind it,
- * and is read back, whole and symbol by symbol: as sent, and with chips damaged on their way. Where
- * a symbol is misread, the aerial is pulled or the front end off in the middle of the frame, or a
- * rope is unplugged, the same calls refuse: a rope that cannot be heard is not a dry one. Last
- * comes a stream of chips with two frames somewhere in it, which are found by trying.
+ * and is read back, whole and symbol by symbol: as sent, inverted by a front end that locked the
+ * wrong way round (mode 0 reads that, too), and with chips damaged on their way. Where a symbol is
+ * misread, the aerial is pulled or the front end off in the middle of the frame, or a rope is
+ * unplugged, the same calls refuse: a rope that cannot be heard is not a dry one. Last comes a
+ * stream of chips with two frames somewhere in it, which are found by trying.
  *   gateway [MODE]          0, 1 or 2; 1 where none is named */
 #include <stdio.h>
 #include <stdlib.h>
@@ -45,7 +46,8 @@ static void tell(const char *how, uint32_t mode, lernazhup_reading answer, const
     if (answer.number == LERNAZHUP_DONE) {
         printf(": '%.*s', %u symbols, %u chips repaired, ", (int)answer.n - 2, (const char *)report,
                (unsigned)answer.place, (unsigned)answer.count);
-        printf("gap %u, %s\n", (unsigned)answer.gap, closeness(mode, answer.gap));
+        printf("gap %u, %s%s\n", (unsigned)answer.gap, closeness(mode, answer.gap),
+               answer.polarity ? ", inverted" : "");
         return;
     }
     while (kept < LERNAZHUP_REPORT_MAX && report[kept] == ' ')
@@ -73,7 +75,7 @@ static lernazhup_reading take_checked(lernazhup_receiver receiver, uint8_t *repo
     if (answer.number == LERNAZHUP_DONE)
         memcpy(report, octets, answer.n);
     else
-        answer.n = answer.count = answer.gap = 0;
+        answer.n = answer.count = answer.gap = answer.polarity = 0;
     return answer;
 }
 
@@ -154,12 +156,24 @@ static void misread(uint32_t mode, uint8_t *chips, size_t length, size_t at)
     memcpy(chips + at, kept, size);
 }
 
-/* One report, as sent, misread, damaged, and with the aerial pulled or the front end off in its
- * midst. */
+/* What a front end does that locked the wrong way round. The report is the same either way: the
+ * polarity is for whoever looks after the front end. */
+static void invert(uint8_t *chips, size_t length)
+{
+    size_t at;
+    for (at = 0; at < length; at++)
+        chips[at] ^= 1;
+}
+
+/* One report, as sent, inverted, misread, damaged, and with the aerial pulled or the front end off
+ * in its midst. */
 static void one_frame(uint32_t mode, uint8_t *chips, size_t length)
 {
     size_t size = LERNAZHUP_SYMBOL_CHIPS(mode), pulled = length / size * 3 / 4;
     read_both_ways("as sent", mode, chips, length);
+    invert(chips, length);
+    read_both_ways("every chip inverted, which only mode 0 reads", mode, chips, length);
+    invert(chips, length);
     misread(mode, chips, length, pulled * size);
     printf("%u chips wrong, ", damage(chips, length, size, LERNAZHUP_ACCEPTED(mode)));
     read_both_ways("none past the accepted distance of its symbol", mode, chips, length);

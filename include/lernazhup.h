@@ -52,6 +52,15 @@
  * the wrong chips of the worst symbol. In modes 1 and 2 it is even, and some wrong chips leave it
  * as it was: README.md says how many may.
  *
+ * Which way round: the polarity. Some front ends lock the wrong way round, and in mode 0 a whole
+ * frame then comes with every chip inverted. It is read all the same: symbol 0 settles the
+ * polarity, and a reading tells it, 1 where the frame came inverted and 0 where it didn't. A front
+ * end that turns over within a frame is another matter: from there on every chip is inverted, and
+ * that is one raw bit read as the other. In the preamble it is LERNAZHUP_PREAMBLE, at symbol 1 or
+ * later; in the start octet LERNAZHUP_BADSTART; at the reserved bit of the length octet it makes no
+ * difference; and elsewhere it is another length or another report, for the FCS to find. Modes 1
+ * and 2 have one polarity, and tell 0; so does a refusal.
+ *
  * Who finds the frame: the caller. The first chip of a buffer is taken for the first chip of the
  * preamble, and no other beginning is looked for. In a stream, try one chip after the other as the
  * beginning, by the checked reader and with room for any report:
@@ -76,11 +85,11 @@
  *
  * What stands below at lernazhup_write, _read, _match, _write_checked, _read_checked, _check, _fcs,
  * _fcs_bitwise, _start, _push, _finish and _take about answers, records and lent bytes is proved,
- * and so is what either profile refuses or finds for certain, and what the gap is at least and as
- * written. Null pointers, the layout of the structs, the stack (under 4 KiB a call), the lack of
- * allocation and what is written in C are tested. How to search a stream is advice: the example
- * gateway runs it, and no theorem is about it. The library is for x86-64. The rules on buffers are
- * checked by nothing: they are yours to keep. */
+ * and so is what either profile refuses or finds for certain, what the gap is at least and as
+ * written, and what the polarity is. Null pointers, the layout of the structs, the stack (under
+ * 4 KiB a call), the lack of allocation and what is written in C are tested. How to search a stream
+ * is advice: the example gateway runs it, and no theorem is about it. The library is for x86-64.
+ * The rules on buffers are checked by nothing: they are yours to keep. */
 #ifndef LERNAZHUP_H
 #define LERNAZHUP_H
 
@@ -94,10 +103,10 @@ extern "C" {
 /* The version of this header. The major number rises where a struct grows or a number, a name or a
  * rule goes or changes its meaning, so that callers have to do something (CHANGELOG.md says what);
  * the minor number where something is added; the last where nothing changes that a caller sees. */
-#define LERNAZHUP_VERSION_MAJOR 3
+#define LERNAZHUP_VERSION_MAJOR 4
 #define LERNAZHUP_VERSION_MINOR 0
 #define LERNAZHUP_VERSION_PATCH 0
-#define LERNAZHUP_VERSION "3.0.0"
+#define LERNAZHUP_VERSION "4.0.0"
 
 /* The numbers given back. */
 #define LERNAZHUP_DONE 0u      /* done                                   write, read, push, take */
@@ -172,12 +181,13 @@ typedef struct {
 
 /* What the readers and take give back. */
 typedef struct {
-    uint32_t number; /* LERNAZHUP_DONE or the refusal */
-    uint32_t place;  /* done: symbols in the frame; refused: the number of the symbol where the
-                        first thing was found wrong, or as the function says */
-    uint32_t n;      /* octets of the report; 0 on a refusal */
-    uint32_t count;  /* chips repaired, over the whole frame; 0 on a refusal */
-    uint32_t gap;    /* the smallest gap of a symbol of the frame; 0 on a refusal */
+    uint32_t number;   /* LERNAZHUP_DONE or the refusal */
+    uint32_t place;    /* done: symbols in the frame; refused: the number of the symbol where the
+                          first thing was found wrong, or as the function says */
+    uint32_t n;        /* octets of the report; 0 on a refusal */
+    uint32_t count;    /* chips repaired, over the whole frame; 0 on a refusal */
+    uint32_t gap;      /* the smallest gap of a symbol of the frame; 0 on a refusal */
+    uint32_t polarity; /* 1 where a mode 0 frame came inverted, else 0; 0 on a refusal */
 } lernazhup_reading;
 
 /* The stepping receiver's record. It goes into each call and comes back from it; nothing else is
@@ -189,17 +199,20 @@ typedef struct {
  *   - its count is above the accepted distance times the symbols taken;
  *   - it is open, and no fewer symbols are taken than its frame has;
  *   - it has ended well, and not just as many symbols are taken as its frame has.
- * Its frame is that of a report of the length held. The gap is in no test: of a record that has
- * ended well take gives it as it is held. */
+ * Its frame is that of a report of the length held. Gap and polarity are in no test: of a record
+ * that has ended well take gives the gap as it is held, and the polarity modulo 2 in mode 0, else
+ * 0. */
 typedef struct {
-    uint32_t mode;   /* as given to start */
-    uint32_t ended;  /* LERNAZHUP_MORE while open, LERNAZHUP_DONE ended well, else the refusal */
-    uint32_t taken;  /* symbols taken: the number of the next symbol; where it ended, the place */
-    uint32_t length; /* n once the length octet is read, 0 before */
-    uint32_t count;  /* chips repaired so far */
-    uint32_t last;   /* the last symbol's value: in mode 0 the encoded bit before the next one */
-    uint32_t octet;  /* the octet in hand */
-    uint32_t gap;    /* the smallest gap of a symbol so far; UINT32_MAX before the first */
+    uint32_t mode;     /* as given to start */
+    uint32_t ended;    /* LERNAZHUP_MORE while open, LERNAZHUP_DONE ended well, else the refusal */
+    uint32_t taken;    /* symbols taken: the number of the next symbol; where it ended, the place */
+    uint32_t length;   /* n once the length octet is read, 0 before */
+    uint32_t count;    /* chips repaired so far */
+    uint32_t last;     /* the last symbol's value: in mode 0 the encoded bit before the next one */
+    uint32_t octet;    /* the octet in hand */
+    uint32_t gap;      /* the smallest gap of a symbol so far; UINT32_MAX before the first */
+    uint32_t polarity; /* in mode 0 the encoded bit that symbol 0 read as; 0 before it, and in the
+                          other modes */
     uint8_t octets[LERNAZHUP_REPORT_MAX]; /* the report's octets so far */
 } lernazhup_receiver;
 
@@ -219,7 +232,9 @@ lernazhup_written lernazhup_write(uint32_t mode, const uint8_t *report, size_t r
 /* Reads the frame that the chips begin with and stores its report.
  * Done: the first n bytes of the report buffer are the report; later ones keep their values. Chips
  * after the frame are not looked at, and neither is the length octet's top bit, which is reserved:
- * the writer writes it as 0, others may not. With a buffer of LERNAZHUP_REPORT_MAX bytes there is
+ * the writer writes it as 0, others may not. In mode 0 the frame may be inverted in every chip: the
+ * encoded bit that symbol 0 reads as is the polarity, and the chain starts from it, so that
+ * LERNAZHUP_PREAMBLE never comes at symbol 0. With a buffer of LERNAZHUP_REPORT_MAX bytes there is
  * room for every report.
  * Refused: LERNAZHUP_BADMODE with place 0; then at each symbol in turn LERNAZHUP_RUNOUT,
  * LERNAZHUP_NOCHIP, LERNAZHUP_LOST, LERNAZHUP_PREAMBLE, LERNAZHUP_BADSTART and LERNAZHUP_NOROOM, in
@@ -338,13 +353,14 @@ LERNAZHUP_AT(matched, number, 0);
 LERNAZHUP_AT(matched, word, 4);
 LERNAZHUP_AT(matched, nearest, 8);
 LERNAZHUP_AT(matched, next, 12);
-LERNAZHUP_FIXED(reading, sizeof(lernazhup_reading) == 20);
+LERNAZHUP_FIXED(reading, sizeof(lernazhup_reading) == 24);
 LERNAZHUP_AT(reading, number, 0);
 LERNAZHUP_AT(reading, place, 4);
 LERNAZHUP_AT(reading, n, 8);
 LERNAZHUP_AT(reading, count, 12);
 LERNAZHUP_AT(reading, gap, 16);
-LERNAZHUP_FIXED(receiver, sizeof(lernazhup_receiver) == 160);
+LERNAZHUP_AT(reading, polarity, 20);
+LERNAZHUP_FIXED(receiver, sizeof(lernazhup_receiver) == 164);
 LERNAZHUP_AT(receiver, mode, 0);
 LERNAZHUP_AT(receiver, ended, 4);
 LERNAZHUP_AT(receiver, taken, 8);
@@ -353,8 +369,9 @@ LERNAZHUP_AT(receiver, count, 16);
 LERNAZHUP_AT(receiver, last, 20);
 LERNAZHUP_AT(receiver, octet, 24);
 LERNAZHUP_AT(receiver, gap, 28);
-LERNAZHUP_AT(receiver, octets, 32);
-LERNAZHUP_FIXED(step, sizeof(lernazhup_step) == 164);
+LERNAZHUP_AT(receiver, polarity, 32);
+LERNAZHUP_AT(receiver, octets, 36);
+LERNAZHUP_FIXED(step, sizeof(lernazhup_step) == 168);
 LERNAZHUP_AT(step, number, 0);
 LERNAZHUP_AT(step, receiver, 4);
 #undef LERNAZHUP_AT

@@ -20,6 +20,7 @@ struct progress {
     __m128i gaps;    /* modes 1, 2: the least gaps, less the limit and 2, in places 0 and 4 of 8 */
     unsigned last;   /* mode 0: the encoded bit before the next one */
     unsigned values; /* modes 1, 2: every symbol's value, OR-ed; 16 where no word is near enough */
+    uint32_t polarity; /* mode 0: the first encoded bit; else 0 */
 };
 
 /* Modes 1 and 2: how far the 8 chips at each part of a symbol are from that part of each of the 16
@@ -168,12 +169,16 @@ static void bpsk_octets(const uint8_t *chips, size_t octets_len, uint8_t *octets
     *kept = progress;
 }
 
-/* The first octet has no byte before it, so it is read from a copy that has. */
+/* The first octet has no byte before it, so it is read from a copy that has. After a 0 its lowest
+ * bit is the first encoded one, which is the polarity; after the polarity that bit is 0, and all
+ * else is the same. */
 static void bpsk_header(const uint8_t *chips, uint8_t *octets, struct progress *progress)
 {
     uint8_t first[1 + BPSK_OCTET] = {0};
     memcpy(first + 1, chips, BPSK_OCTET);
     bpsk_octets(first + 1, 1, octets, progress);
+    progress->polarity = octets[0] & 1;
+    octets[0] &= 0xFE;
     bpsk_octets(chips + BPSK_OCTET, HEADER - 1, octets + 1, progress);
 }
 
@@ -235,7 +240,7 @@ lernazhup_reading best_read(uint32_t mode, const uint8_t *chips, size_t chips_le
 {
     struct progress progress;
     uint8_t header[HEADER], octets[LERNAZHUP_REPORT_MAX];
-    lernazhup_reading reading = {LERNAZHUP_DONE, 0, 0, 0, 0};
+    lernazhup_reading reading = {LERNAZHUP_DONE, 0, 0, 0, 0, 0};
     size_t octet_chips = LERNAZHUP_BY_MODE(mode, BPSK_OCTET, 64, 32);
     if (mode > 2 || chips_len < HEADER * octet_chips)
         return usual_read(mode, chips, chips_len, report, report_len);
@@ -254,6 +259,7 @@ lernazhup_reading best_read(uint32_t mode, const uint8_t *chips, size_t chips_le
     reading.place = (HEADER + reading.n) * (mode == 0 ? 8 : 2);
     reading.count = repaired(mode, reading.place, &progress);
     reading.gap = least_gap(mode, &progress);
+    reading.polarity = progress.polarity;
     if (reading.n > 0)
         memcpy(report, octets, reading.n);
     return reading;

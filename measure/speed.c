@@ -9,11 +9,11 @@
  * contestant works through 32 different frames of 127 octets, so that no processor knows them by
  * heart; their reports end in the right FCS, so that the checked reader reads them, too. In the
  * noisy frames each symbol has a random number of wrong chips, from none to as many as its radio
- * accepts. An FCS is worked out of 127 other octets, and so often that it can be timed. Time is the
- * processor's time of this thread, so that being set aside for another program isn't counted. Every
- * answer is checked before anything is timed, and the sum of the answers each time after that; a
- * wrong one ends the program with 1. A figure that was missed is only said, since it depends on the
- * machine. */
+ * accepts, and in mode 0 every other one comes inverted. An FCS is worked out of 127 other octets,
+ * and so often that it can be timed. Time is the processor's time of this thread, so that being set
+ * aside for another program isn't counted. Every answer is checked before anything is timed, and
+ * the sum of the answers each time after that; a wrong one ends the program with 1. A figure that
+ * was missed is only said, since it depends on the machine. */
 #define _POSIX_C_SOURCE 199309L
 #include <stdio.h>
 #include <stdlib.h>
@@ -33,7 +33,7 @@ typedef uint32_t checker(const uint8_t *, size_t);
 static uint8_t reports[FRAMES][OCTETS], unsealed[FRAMES][OCTETS];
 static uint8_t clean[MODES][FRAMES][LERNAZHUP_CHIPS_MAX];
 static uint8_t noisy[MODES][FRAMES][LERNAZHUP_CHIPS_MAX];
-static uint32_t wrong_chips[MODES][FRAMES], gaps[MODES][FRAMES];
+static uint32_t wrong_chips[MODES][FRAMES], gaps[MODES][FRAMES], polarities[MODES][FRAMES];
 static size_t frames = FRAMES;
 
 struct contestant {
@@ -94,7 +94,9 @@ static void make_frame(uint32_t mode, size_t frame)
         copying_write(mode, reports[frame], OCTETS, clean[mode][frame], frame_chips(mode));
     if (written.number != LERNAZHUP_DONE || written.chips != frame_chips(mode))
         wrong("copying_write", mode);
-    memcpy(noisy[mode][frame], clean[mode][frame], frame_chips(mode));
+    polarities[mode][frame] = mode == 0 && frame % 2 == 1;
+    for (at = 0; at < frame_chips(mode); at++)
+        noisy[mode][frame][at] = (uint8_t)(clean[mode][frame][at] ^ polarities[mode][frame]);
     for (at = 0; at < frame_chips(mode); at += LERNAZHUP_SYMBOL_CHIPS(mode))
         wrong_chips[mode][frame] += spoil(noisy[mode][frame] + at, mode);
     gaps[mode][frame] = usual_read(mode, noisy[mode][frame], frame_chips(mode), report, OCTETS).gap;
@@ -177,12 +179,13 @@ static const uint8_t *chips_for(const struct contestant *contestant, size_t fram
 static lernazhup_reading due(const struct contestant *contestant, size_t frame)
 {
     uint32_t mode = contestant->mode;
-    lernazhup_reading reading = {LERNAZHUP_DONE, 0, OCTETS, 0, 0};
+    lernazhup_reading reading = {LERNAZHUP_DONE, 0, OCTETS, 0, 0, 0};
     reading.place = (uint32_t)(frame_chips(mode) / LERNAZHUP_SYMBOL_CHIPS(mode));
     reading.gap = LERNAZHUP_BY_MODE(mode, 15u, 12u, 6u);
     if (contestant->with_noise) {
         reading.count = wrong_chips[mode][frame];
         reading.gap = gaps[mode][frame];
+        reading.polarity = polarities[mode][frame];
     }
     return reading;
 }

@@ -3,9 +3,9 @@
  * A call runs on a stack of its own that was painted before; what is no longer paint afterwards was
  * used. The same is done with an empty function of the same shape and taken off, so that arguments,
  * the record's copies on the caller's side and the switch of stacks don't count. Each call gets
- * full frames with as many wrong chips as are accepted, and inputs that are refused. A number in
- * the table is what a call takes beyond that empty one. The program fails if a call exceeds the
- * limit, or if an answer isn't the one that was due. */
+ * full frames with as many wrong chips as are accepted, and inputs that are refused; the readers
+ * get the frame inverted, too. A number in the table is what a call takes beyond that empty one.
+ * The program fails if a call exceeds the limit, or if an answer isn't the one that was due. */
 #define _XOPEN_SOURCE 700
 #include <stdio.h>
 #include <stdlib.h>
@@ -251,6 +251,14 @@ static void spoil(uint32_t mode)
             chips[symbol + i] ^= 1;
 }
 
+/* Inverts every chip of the frame. */
+static void invert(uint32_t mode)
+{
+    size_t at;
+    for (at = 0; at < frame_chips(mode); at++)
+        chips[at] ^= 1;
+}
+
 /* What a reader says when the last symbol of an octet has another value, its top bit turned. That
  * of the length octet is reserved; but in mode 0 the report's first bit turns with it. */
 static uint32_t number_for_other(int which, uint32_t mode, size_t octet)
@@ -292,6 +300,10 @@ static void measure_read(int which, uint32_t mode)
     given.report_len = OCTETS;
     note(which, mode);
     expect(reading.number, LERNAZHUP_DONE, which);
+    invert(mode);
+    note(which, mode);
+    expect(reading.number, mode == 0 ? LERNAZHUP_DONE : LERNAZHUP_LOST, which);
+    invert(mode);
     for (octet = 0; octet < 7; octet++)
         measure_broken_reads(which, mode, octet);
     measure_broken_reads(which, mode, 6 + OCTETS - 1);

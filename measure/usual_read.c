@@ -33,7 +33,7 @@ struct radio {
     uint32_t limit;  /* the accepted distance */
     uint32_t count;  /* code words */
     const uint32_t *words;
-    int chained; /* each bit was added to the encoded bit before it */
+    int chained; /* each bit was added to the encoded bit before it, the first to the polarity */
 };
 
 static const uint32_t bpsk_words[2] = {0x7AC8, 0x0537};
@@ -59,7 +59,7 @@ enum { START = 4, LENGTH = 5, HEADER = 6 };
 
 static lernazhup_reading refused(uint32_t number, uint32_t place)
 {
-    lernazhup_reading reading = {number, place, 0, 0, 0};
+    lernazhup_reading reading = {number, place, 0, 0, 0, 0};
     return reading;
 }
 
@@ -106,10 +106,10 @@ static uint32_t header_fault(uint32_t at, uint8_t octet, size_t report_len)
     return 0;
 }
 
-static lernazhup_reading done(uint32_t place, uint32_t count, uint32_t gap, const uint8_t *octets,
-                              uint8_t *report)
+static lernazhup_reading done(uint32_t place, uint32_t count, uint32_t gap, uint32_t polarity,
+                              const uint8_t *octets, uint8_t *report)
 {
-    lernazhup_reading reading = {LERNAZHUP_DONE, place, octets[LENGTH] & 127, count, gap};
+    lernazhup_reading reading = {LERNAZHUP_DONE, place, octets[LENGTH] & 127, count, gap, polarity};
     if (reading.n > 0)
         memcpy(report, octets + HEADER, reading.n);
     return reading;
@@ -122,7 +122,7 @@ static lernazhup_reading read_frame(const struct radio *radio, const uint8_t *ch
 {
     uint8_t octets[HEADER + LERNAZHUP_REPORT_MAX];
     uint32_t per_octet = 8 / radio->bits, total = HEADER, count = 0, gap = UINT32_MAX, last = 0;
-    uint32_t place = 0, at, i;
+    uint32_t polarity = 0, place = 0, at, i;
     for (at = 0; at < total; at++) {
         uint8_t octet = 0;
         for (i = 0; i < per_octet; i++, place++) {
@@ -134,6 +134,8 @@ static lernazhup_reading read_frame(const struct radio *radio, const uint8_t *ch
             value = nearest(radio, word, &distance, &next);
             if (distance > radio->limit)
                 return refused(LERNAZHUP_LOST, place);
+            if (place == 0 && radio->chained)
+                polarity = last = value;
             raw = radio->chained ? value ^ last : value;
             if (at < START && raw != 0)
                 return refused(LERNAZHUP_PREAMBLE, place);
@@ -151,7 +153,7 @@ static lernazhup_reading read_frame(const struct radio *radio, const uint8_t *ch
         if (at == LENGTH)
             total += octet & 127;
     }
-    return done(place, count, gap, octets, report);
+    return done(place, count, gap, polarity, octets, report);
 }
 
 lernazhup_reading usual_read(uint32_t mode, const uint8_t *chips, size_t chips_len, uint8_t *report, size_t report_len)

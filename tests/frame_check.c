@@ -40,7 +40,7 @@ static void published(void)
     check_fcs((const uint8_t *)"123456789", 9, 0x2189);
 }
 
-static void check_reading(uint32_t mode, const uint8_t *octets, size_t n)
+static void check_reading(uint32_t mode, const uint8_t *octets, size_t n, uint32_t polarity)
 {
     uint8_t report[LERNAZHUP_REPORT_MAX];
     size_t length = LERNAZHUP_FRAME_CHIPS(mode, n);
@@ -50,7 +50,16 @@ static void check_reading(uint32_t mode, const uint8_t *octets, size_t n)
     check("n", reading.n, n);
     check("count", reading.count, 0);
     check("gap", reading.gap, LERNAZHUP_BY_MODE(mode, 15u, 12u, 6u));
+    check("polarity", reading.polarity, polarity);
     check("octets read", memcmp(report, octets, n) == 0, 1);
+}
+
+/* The chips of mode 0, as a front end gives them that locked the wrong way round. */
+static void invert(size_t n)
+{
+    size_t at;
+    for (at = 0; at < LERNAZHUP_FRAME_CHIPS(0, n); at++)
+        chips[at] ^= 1;
 }
 
 /* The chips of a value: the first symbol of a report of that octet alone, behind a header which
@@ -173,7 +182,7 @@ static void capture(const char *file, const char *number)
           strtoul(number, NULL, 10));
 }
 
-/* A frame of scapy's, by every call and in every mode. */
+/* A frame of scapy's, by every call and in every mode, in mode 0 either way round. */
 static void whole_frame(const uint8_t *octets, size_t n)
 {
     uint32_t mode;
@@ -182,8 +191,13 @@ static void whole_frame(const uint8_t *octets, size_t n)
     for (mode = 0; LERNAZHUP_SYMBOL_CHIPS(mode) > 0; mode++) {
         check("chips", lernazhup_write_checked(mode, octets, n - 2, chips, sizeof chips).chips,
               LERNAZHUP_FRAME_CHIPS(mode, n));
-        check_reading(mode, octets, n);
+        check_reading(mode, octets, n, 0);
         misread(mode, n);
+        if (mode == 0) {
+            invert(n);
+            check_reading(mode, octets, n, 1);
+            misread(mode, n);
+        }
     }
 }
 

@@ -22,12 +22,12 @@ class Matched(ctypes.Structure):
 
 
 class Reading(ctypes.Structure):
-    _fields_ = numbers("number", "place", "n", "count", "gap")
+    _fields_ = numbers("number", "place", "n", "count", "gap", "polarity")
 
 
 class Receiver(ctypes.Structure):
     _fields_ = numbers("mode", "ended", "taken", "length", "count", "last", "octet", "gap")
-    _fields_ += [("octets", U8 * 127)]
+    _fields_ += numbers("polarity") + [("octets", U8 * 127)]
 
 
 class Step(ctypes.Structure):
@@ -79,16 +79,9 @@ def check(what, got, want):
         print(f"python, {what}: {got} and not {want}")
 
 
-def plain(library, mode, size, octet, gap, following):
-    """A frame with its first chip wrong, matched, read and stepped; its chips."""
-    symbols = (6 + len(TEXT)) * octet
-    chips = (U8 * (symbols * size))()
+def received(library, mode, size, chips, answer):
+    """A frame read and stepped, to that answer."""
     back = (U8 * 127)()
-    written = library.lernazhup_write(mode, REPORT, len(TEXT), chips, len(chips))
-    check("write", values(written), (0, len(chips)))
-    chips[0] ^= 1
-    check("match", values(library.lernazhup_match(mode, chips, size)), (0, 0, 1, following))
-    answer = (0, symbols, len(TEXT), 1, min(gap, following - 1))
     check("read", values(library.lernazhup_read(mode, chips, len(chips), back, 127)), answer)
     check("report", bytes(back[: len(TEXT)]), TEXT)
     step = library.lernazhup_start(mode)
@@ -96,8 +89,24 @@ def plain(library, mode, size, octet, gap, following):
     for at in range(0, len(chips), size):
         check("push", step.number, 13)
         step = library.lernazhup_push(step.receiver, (U8 * size)(*chips[at : at + size]), size)
+    check("polarity held", step.receiver.polarity, answer[-1])
     check("take", values(library.lernazhup_take(step.receiver, back, 127)), answer)
     check("finish", library.lernazhup_finish(step.receiver).number, 10)
+
+
+def plain(library, mode, size, octet, gap, following):
+    """A frame with its first chip wrong, in mode 0 either way round; its chips."""
+    symbols = (6 + len(TEXT)) * octet
+    chips = (U8 * (symbols * size))()
+    written = library.lernazhup_write(mode, REPORT, len(TEXT), chips, len(chips))
+    check("write", values(written), (0, len(chips)))
+    chips[0] ^= 1
+    check("match", values(library.lernazhup_match(mode, chips, size)), (0, 0, 1, following))
+    answer = (0, symbols, len(TEXT), 1, min(gap, following - 1))
+    received(library, mode, size, chips, answer + (0,))
+    if mode == 0:
+        inverse = (U8 * len(chips))(*(1 - chip for chip in chips))
+        received(library, mode, size, inverse, answer + (1,))
     return chips
 
 
@@ -108,18 +117,18 @@ def checked(library, mode, size, octet, gap, chips):
     written = library.lernazhup_write_checked(mode, REPORT, len(TEXT), longer, len(longer))
     check("write_checked", values(written), (0, len(longer)))
     reading = library.lernazhup_read_checked(mode, longer, len(longer), back, 127)
-    check("read_checked", values(reading), (0, symbols, len(TEXT) + 2, 0, gap))
+    check("read_checked", values(reading), (0, symbols, len(TEXT) + 2, 0, gap, 0))
     check("its report", bytes(back[: len(TEXT) + 2]), TEXT + b"\xb5\xc0")
     check("check", library.lernazhup_check(back, len(TEXT) + 2), 0)
     reading = library.lernazhup_read_checked(mode, chips, len(chips), back, 127)
-    check("read_checked without an FCS", values(reading), (15, symbols - 2 * octet, 0, 0, 0))
+    check("read_checked without an FCS", values(reading), (15, symbols - 2 * octet, 0, 0, 0, 0))
 
 
 def flat(library, mode, size, lost):
     chips, back = (U8 * size)(), (U8 * 127)()
     check("match of flat chips", values(library.lernazhup_match(mode, chips, size)), lost)
     reading = library.lernazhup_read(mode, chips, size, back, 127)
-    check("flat chips", values(reading), (6, 0, 0, 0, 0))
+    check("flat chips", values(reading), (6, 0, 0, 0, 0, 0))
     check("their meaning", library.lernazhup_meaning(reading.number), b"symbol lost")
 
 

@@ -1,5 +1,5 @@
 /* What the header works out by itself, held against the library: sizes by mode number, the calls
- * that keep the record, the version; and what its comment says of the gap. */
+ * that keep the record, the version; and what its comment says of the gap and the polarity. */
 #include <stdio.h>
 #include <string.h>
 
@@ -72,6 +72,41 @@ static void gaps(uint32_t mode)
     check("the gap of a refusal", damaged(mode, accepted + 1).gap, 0);
 }
 
+/* The frame of five octets and their FCS, inverted from a chip on. */
+static lernazhup_reading turned_at(uint32_t mode, size_t from, size_t length)
+{
+    uint8_t back[LERNAZHUP_REPORT_MAX];
+    lernazhup_write_checked(mode, report, 5, chips, sizeof chips);
+    for (; from < length; from++)
+        chips[from] ^= 1;
+    return lernazhup_read_checked(mode, chips, length, back, sizeof back);
+}
+
+/* What comes of that in mode 0, at a symbol that isn't one of n's in the length octet. */
+static uint32_t number_turned(size_t symbol)
+{
+    if (symbol == 0 || symbol == 47)
+        return LERNAZHUP_DONE;
+    if (symbol < 40)
+        return symbol < 32 ? LERNAZHUP_PREAMBLE : LERNAZHUP_BADSTART;
+    return LERNAZHUP_BADCHECK;
+}
+
+static void polarities(uint32_t mode)
+{
+    size_t size = LERNAZHUP_SYMBOL_CHIPS(mode), length = LERNAZHUP_FRAME_CHIPS(mode, 7), symbol;
+    for (symbol = 0; symbol * size < length; symbol++) {
+        lernazhup_reading reading = turned_at(mode, symbol * size, length);
+        if (mode > 0)
+            check("inverted in a mode with one polarity", reading.number, LERNAZHUP_LOST);
+        else if (symbol >= 40 && symbol < 47)
+            check("another length is refused", reading.number != LERNAZHUP_DONE, 1);
+        else
+            check("inverted from a symbol on", reading.number, number_turned(symbol));
+        check("its polarity", reading.polarity, mode == 0 && symbol == 0);
+    }
+}
+
 static void symbols(uint32_t mode)
 {
     size_t size = LERNAZHUP_SYMBOL_CHIPS(mode), k;
@@ -120,6 +155,7 @@ int main(void)
         checked(mode);
         symbols(mode);
         gaps(mode);
+        polarities(mode);
         lernazhup_write(mode, report, 5, chips, sizeof chips);
         kept(mode, LERNAZHUP_FRAME_CHIPS(mode, 5));
         kept(mode, LERNAZHUP_FRAME_CHIPS(mode, 5) - 1);

@@ -38,6 +38,7 @@ static lernazhup_receiver filled(void)
     r.last = 0x61626364;
     r.octet = 0x71727374;
     r.gap = 0x01020304;
+    r.polarity = 0x05060708;
     for (k = 0; k < sizeof r.octets; k++)
         r.octets[k] = (uint8_t)(0x80 + k);
     return r;
@@ -53,6 +54,7 @@ static void same_record(lernazhup_receiver got, lernazhup_receiver want)
     check("last", got.last, want.last);
     check("octet", got.octet, want.octet);
     check("gap", got.gap, want.gap);
+    check("polarity", got.polarity, want.polarity);
     check("octets", (unsigned long)memcmp(got.octets, want.octets, sizeof got.octets), 0);
 }
 
@@ -63,6 +65,7 @@ static void check_reading(lernazhup_reading got, lernazhup_reading want)
     check("n", got.n, want.n);
     check("count", got.count, want.count);
     check("gap", got.gap, want.gap);
+    check("polarity", got.polarity, want.polarity);
 }
 
 /* Every field of a record that the library itself made: a mode with two symbols an octet, five
@@ -79,7 +82,7 @@ static lernazhup_receiver stepped(uint32_t mode, const uint8_t *chips, size_t sy
 static void made_by_the_library(uint32_t mode, size_t length, uint32_t gap)
 {
     static const uint8_t report[5] = {0x12, 0x34, 0x56, 0x78, 0x9A};
-    const lernazhup_reading read = {LERNAZHUP_DONE, 22, 5, 3, gap};
+    const lernazhup_reading read = {LERNAZHUP_DONE, 22, 5, 3, gap, 0};
     uint8_t chips[704], back[LERNAZHUP_REPORT_MAX];
     size_t second = LERNAZHUP_SYMBOL_CHIPS(mode);
     lernazhup_receiver want;
@@ -117,7 +120,7 @@ static void made_by_the_library(uint32_t mode, size_t length, uint32_t gap)
 static void checked_by_the_library(uint32_t mode, size_t length, uint32_t gap)
 {
     static const uint8_t report[7] = {0x12, 0x34, 0x56, 0x78, 0x9A, 0x3B, 0xCC};
-    const lernazhup_reading read = {LERNAZHUP_DONE, 26, 7, 1, gap};
+    const lernazhup_reading read = {LERNAZHUP_DONE, 26, 7, 1, gap, 0};
     uint8_t chips[832], back[LERNAZHUP_REPORT_MAX];
     lernazhup_written written = lernazhup_write_checked(mode, report, 5, chips, length);
     call = "write_checked";
@@ -130,6 +133,37 @@ static void checked_by_the_library(uint32_t mode, size_t length, uint32_t gap)
     call = "read_checked";
     check_reading(lernazhup_read_checked(mode, chips, length, back, sizeof back), read);
     check("report", (unsigned long)memcmp(back, report, sizeof report), 0);
+}
+
+/* The polarity, which only mode 0 tells: a frame inverted but for three chips, which are wrong. */
+static void inverted_by_the_library(void)
+{
+    static const uint8_t report[5] = {0x12, 0x34, 0x56, 0x78, 0x9A};
+    const lernazhup_reading read = {LERNAZHUP_DONE, 88, 5, 3, 11, 1};
+    uint8_t chips[LERNAZHUP_FRAME_CHIPS(0, 5)], back[LERNAZHUP_REPORT_MAX];
+    lernazhup_receiver want;
+    size_t k;
+    lernazhup_write(0, report, sizeof report, chips, sizeof chips);
+    for (k = 0; k < sizeof chips; k++)
+        chips[k] ^= k != 0 && k != LERNAZHUP_SYMBOL_MODE0 && k != LERNAZHUP_SYMBOL_MODE0 + 1;
+    call = "read, inverted";
+    check_reading(lernazhup_read(0, chips, sizeof chips, back, sizeof back), read);
+    memset(&want, 0, sizeof want);
+    want.ended = LERNAZHUP_MORE;
+    want.taken = 59;
+    want.length = 5;
+    want.count = 3;
+    /* of the bits sent so far ten are 1, so that the chain is where it began */
+    want.last = 1;
+    /* the low three bits of 0x34 above the high five of 0x12 */
+    want.octet = 0x82;
+    want.gap = 11;
+    want.polarity = 1;
+    want.octets[0] = 0x12;
+    call = "push, inverted";
+    same_record(stepped(0, chips, 59), want);
+    call = "take, inverted";
+    check_reading(lernazhup_take(stepped(0, chips, 88), back, sizeof back), read);
 }
 
 /* The symbol of 13 with its first chips wrong, more than are accepted: it is lost, and the nearest
@@ -155,7 +189,7 @@ static void given_back(void)
 {
     uint8_t part[LERNAZHUP_SYMBOL_MAX] = {0};
     lernazhup_receiver record = filled();
-    lernazhup_reading refused = {record.ended, record.taken, 0, 0, 0};
+    lernazhup_reading refused = {record.ended, record.taken, 0, 0, 0, 0};
     lernazhup_step step = lernazhup_finish(record);
     call = "finish on an ended record";
     check("number", step.number, LERNAZHUP_ENDED);
@@ -172,6 +206,7 @@ static void given_back(void)
     check("mode", step.receiver.mode, 0x0A0B0C0D);
     check("ended", step.receiver.ended, LERNAZHUP_BADMODE);
     check("gap", step.receiver.gap, UINT32_MAX);
+    check("polarity", step.receiver.polarity, 0);
 }
 
 int main(void)
@@ -181,6 +216,7 @@ int main(void)
     made_by_the_library(2, 352, 4);
     checked_by_the_library(1, 832, 12);
     checked_by_the_library(2, 416, 4);
+    inverted_by_the_library();
     matched_by_the_library(1, 7);
     matched_by_the_library(2, 3);
     printf("fields: %d values carried, %d wrong\n", passed + failed, failed);

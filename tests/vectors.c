@@ -122,6 +122,19 @@ static struct frame every(struct frame frame, size_t size)
     return frame;
 }
 
+/* So many first chips of every symbol wrong. */
+static struct frame worn(struct frame frame, size_t wrong)
+{
+    return every(flip(frame, 0, wrong), radio_of(frame.read).size);
+}
+
+/* Every chip inverted but so many first ones of every symbol, which are wrong in the inverse. */
+static struct frame inverse(struct frame frame, size_t wrong)
+{
+    size_t size = radio_of(frame.read).size;
+    return every(flip(frame, wrong, size - wrong), size);
+}
+
 static void change(struct frame frame, uint8_t chips[LONGEST])
 {
     size_t i;
@@ -180,12 +193,12 @@ static void tell(size_t n, struct slice sent, const uint8_t lent[LENT])
     print_octets(n, lent);
 }
 
-/* The five numbers and what became of the lent buffer. The line goes on. */
+/* The six numbers and what became of the lent buffer. The line goes on. */
 static void answered(lernazhup_reading reading, struct slice sent, const uint8_t lent[LENT])
 {
     printf("%" PRIu32 " %" PRIu32 " %" PRIu32, reading.number, reading.place, reading.n);
-    printf(" %" PRIu32 " %" PRIu32 ", %zu changed", reading.count, reading.gap,
-           changed(lent, LENT));
+    printf(" %" PRIu32 " %" PRIu32 " %" PRIu32 ", %zu changed", reading.count, reading.gap,
+           reading.polarity, changed(lent, LENT));
     if (reading.number == LERNAZHUP_DONE)
         tell(reading.n, sent, lent);
 }
@@ -372,6 +385,7 @@ static void limits(uint32_t mode)
     line("first chips wrong in the report, past the limit", flip(five, inside, more));
     line("last chips wrong in the report, at the limit", flip(five, end - most, most));
     line("last chips wrong in the report, past the limit", flip(five, end - more, more));
+    line("nine errors in the first symbol", flip(five, 0, 9));
     line("nine errors in the last symbol", flip(five, five.chips - size, 9));
 }
 
@@ -400,20 +414,10 @@ static void everywhere(uint32_t mode, uint32_t octets)
 {
     struct frame frame = frame_of(mode, octets);
     size_t size = radio_of(mode).size, most = radio_of(mode).limit;
-    struct frame firsts = every(flip(frame, 0, most), size), lasts = every(flip(frame, size - most, most), size);
+    struct frame firsts = worn(frame, most), lasts = every(flip(frame, size - most, most), size);
     line("first chips of every symbol wrong, at the limit", firsts);
     line("last chips of every symbol wrong, at the limit", lasts);
     twice("first chips of every symbol wrong, past the limit in the last", firsts, flip(frame, frame.chips - 1, 1));
-}
-
-/* Mode 0 tells a word from its inverse only by the word before it: inverted from the first symbol
- * on, the preamble isn't zero; from the report on, one bit differs. In the other modes no word is
- * near the inverse of one. */
-static void inverted(uint32_t mode)
-{
-    struct frame five = frame_of(mode, 5);
-    line("every chip inverted", flip(five, 0, five.chips));
-    line("every chip of the report inverted", flip(five, octet_at(mode, 6), five.chips));
 }
 
 /* Refusals in the last symbol of 127 octets, when all the others are read. */
@@ -451,18 +455,18 @@ static void headers(uint32_t mode)
     header("length octet 0x80, no room", mode, 0, 0, 0xA7, 0x80);
 }
 
-/* A frame with the reserved bit set, and so many wrong chips at the front of each symbol. The bit's
- * symbol is the length octet's last: in mode 0 the chain turns over at it, and with it every chip
- * from there on; in modes 1 and 2 its chips of odd index turn. */
-static void reserved_line(const char *what, uint32_t mode, uint32_t octets, size_t room, size_t wrong)
+/* A frame with the reserved bit set, after its change. The bit's symbol is the length octet's last:
+ * in mode 0 the chain turns over at it, and with it every chip from there on; in modes 1 and 2 its
+ * chips of odd index turn. */
+static void reserved_line(const char *what, struct frame frame)
 {
     uint8_t chips[LONGEST];
-    struct frame frame = frame_of(mode, octets);
-    size_t size = radio_of(mode).size, end = octet_at(mode, 6), last = end - size, i;
-    make(every(flip(frame, 0, wrong), size), chips);
+    uint32_t mode = frame.read;
+    size_t end = octet_at(mode, 6), last = end - radio_of(mode).size, i;
+    make(frame, chips);
     for (i = last; i < (mode == 0 ? frame.chips : end); i++)
         chips[i] ^= mode == 0 || (i - last) % 2 == 1;
-    read_line(what, mode, slice(chips, frame.chips), slice(sample, octets), room);
+    read_line(what, mode, slice(chips, frame.chips), slice(sample, frame.octets), frame.room);
 }
 
 static void reserved(uint32_t mode)
@@ -470,11 +474,63 @@ static void reserved(uint32_t mode)
     static const uint32_t octets[] = {0, 5, REPORT};
     size_t k;
     for (k = 0; k < sizeof octets / sizeof *octets; k++) {
-        reserved_line("reserved bit", mode, octets[k], REPORT, 0);
-        reserved_line("reserved bit, at the limit", mode, octets[k], REPORT, radio_of(mode).limit);
-        reserved_line("reserved bit, room exact", mode, octets[k], octets[k], 1);
+        struct frame frame = frame_of(mode, octets[k]);
+        reserved_line("reserved bit", frame);
+        reserved_line("reserved bit, at the limit", worn(frame, radio_of(mode).limit));
+        reserved_line("reserved bit, room exact", with_room(worn(frame, 1), octets[k]));
         if (octets[k] > 0)
-            reserved_line("reserved bit, room one short", mode, octets[k], octets[k] - 1, 0);
+            reserved_line("reserved bit, room one short", with_room(frame, octets[k] - 1));
+    }
+}
+
+/* Frames from a front end that locked the wrong way round. In mode 0 the first symbol settles that,
+ * and all else is as it is of the frame itself; in the other modes no word is near the inverse of
+ * one. */
+static void inverted(uint32_t mode)
+{
+    static const uint32_t octets[] = {0, 1, 5, 64, REPORT};
+    size_t limit = radio_of(mode).limit, k;
+    for (k = 0; k < sizeof octets / sizeof *octets; k++) {
+        struct frame frame = frame_of(mode, octets[k]), over = inverse(frame, 0);
+        line("inverted", over);
+        line("inverted, at the limit", inverse(frame, limit));
+        line("inverted, room exact", with_room(inverse(frame, 1), octets[k]));
+        reserved_line("inverted, reserved bit", over);
+        reserved_line("inverted, reserved bit, at the limit", inverse(frame, limit));
+        if (octets[k] > 0)
+            line("inverted, room one short", with_room(over, octets[k] - 1));
+    }
+}
+
+/* In mode 0 a fault is refused in the inverse as it is in the frame, and at the same symbol. */
+static void inverted_refusals(uint32_t mode)
+{
+    struct frame five = frame_of(mode, 5), over = inverse(five, 0);
+    size_t size = radio_of(mode).size, more = radio_of(mode).limit + 1, inside = octet_at(mode, 8);
+    line("inverted, first symbol cut", with_chips(over, size - 1));
+    line("inverted, last symbol cut", with_chips(over, five.chips - 1));
+    twice("inverted, byte 2, first chip", over, put(five, 0, 1, 2));
+    twice("inverted, byte 2 in the report", over, put(five, inside + 7, 1, 2));
+    twice("inverted, flat 0 first", over, put(five, 0, size, 0));
+    twice("inverted, flat 1 first", over, put(five, 0, size, 1));
+    twice("inverted, first symbol past the limit", over, flip(five, 0, more));
+    twice("inverted, flat 0 in the report", over, put(five, inside, size, 0));
+    twice("inverted, report past the limit", over, flip(five, inside, more));
+}
+
+/* Turned over within the frame, at each symbol in turn. In mode 0 that is one raw bit read as the
+ * other: the preamble isn't zero, the start octet is wrong, the length is another, which the frame
+ * may be too short for, or an octet of the report is; only the reserved bit may be either. */
+static void turned_over(uint32_t mode)
+{
+    struct frame five = frame_of(mode, 5);
+    size_t size = radio_of(mode).size, at;
+    char what[48];
+    for (at = size; at < five.chips; at += size) {
+        snprintf(what, sizeof what, "inverted from symbol %zu on", at / size);
+        line(what, flip(five, at, five.chips - at));
+        snprintf(what, sizeof what, "inverted up to symbol %zu", at / size - 1);
+        line(what, flip(five, 0, at));
     }
 }
 
@@ -505,10 +561,12 @@ static void readings_of(uint32_t mode)
     between(mode);
     everywhere(mode, 5);
     everywhere(mode, 127);
-    inverted(mode);
     at_the_end(mode);
     headers(mode);
     reserved(mode);
+    inverted(mode);
+    inverted_refusals(mode);
+    turned_over(mode);
 }
 
 /* ---- One symbol matched ---- */
@@ -787,7 +845,7 @@ static void checked_writings_of_none(void)
 }
 
 /* Whether a receiver's take, and check after it, come to the same number at the same place, and
- * where the report passes to the same gap. */
+ * where the report passes to the same gap and polarity. */
 static int checks(uint32_t mode, struct slice chips, lernazhup_reading reading)
 {
     uint8_t octets[REPORT];
@@ -795,9 +853,9 @@ static int checks(uint32_t mode, struct slice chips, lernazhup_reading reading)
     if (taken.number == LERNAZHUP_DONE)
         taken.number = lernazhup_check(octets, taken.n);
     if (taken.number != LERNAZHUP_DONE)
-        taken.gap = 0;
+        taken.gap = taken.polarity = 0;
     return taken.number == reading.number && taken.place == reading.place &&
-           taken.gap == reading.gap;
+           taken.gap == reading.gap && taken.polarity == reading.polarity;
 }
 
 /* Reads a report's frame after its change. The plain writer sends the report as it is here. */
@@ -840,7 +898,7 @@ static void passing(uint32_t mode)
 {
     uint8_t octets[REPORT];
     struct frame seven = frame_of(mode, 7), longest = frame_of(mode, 127);
-    size_t size = radio_of(mode).size, limit = radio_of(mode).limit;
+    size_t limit = radio_of(mode).limit;
     checked_line("three octets", frame_of(mode, 3), slice(fcs_zero, 3));
     checked_line("FCS 0", frame_of(mode, 5), slice(fcs_zero, 5));
     checked_line("room exact", with_room(seven, 7), sealed(octets, 5));
@@ -849,7 +907,7 @@ static void passing(uint32_t mode)
     checked_line("room exact", longest, sealed(octets, 125));
     checked_line("room one short", with_room(longest, 126), sealed(octets, 125));
     checked_line("room left over", with_room(longest, 200), sealed(octets, 125));
-    checked_line("at the limit", every(flip(longest, 0, limit), size), sealed(octets, 125));
+    checked_line("at the limit", worn(longest, limit), sealed(octets, 125));
 }
 
 /* The report of that many octets with an FCS that has one bit wrong. */
@@ -865,7 +923,7 @@ static void wrong_checks(uint32_t mode)
     static const uint8_t high_first[3] = {0x01, 0x11, 0x89}, of_zeros[3] = {0, 0, 1};
     uint8_t octets[REPORT];
     struct frame seven = frame_of(mode, 7), longest = frame_of(mode, 127);
-    size_t size = radio_of(mode).size, limit = radio_of(mode).limit;
+    size_t limit = radio_of(mode).limit;
     checked_line("high octet first", frame_of(mode, 3), slice(high_first, 3));
     checked_line("FCS 256 of zeros", frame_of(mode, 3), slice(of_zeros, 3));
     checked_line("without FCS", frame_of(mode, 5), slice(sample, 5));
@@ -874,21 +932,20 @@ static void wrong_checks(uint32_t mode)
     checked_line("wrong, room exact", with_room(seven, 7), spoilt(octets, 5, 8));
     checked_line("wrong, room one short", with_room(seven, 6), spoilt(octets, 5, 8));
     checked_line("wrong, room left over", with_room(longest, 200), spoilt(octets, 125, 7));
-    checked_line("wrong, at the limit", every(flip(longest, 0, limit), size),
-                 spoilt(octets, 125, 7));
+    checked_line("wrong, at the limit", worn(longest, limit), spoilt(octets, 125, 7));
 }
 
 static void all_zeros(uint32_t mode)
 {
     static const uint32_t octets[] = {3, 5, REPORT};
-    size_t size = radio_of(mode).size, limit = radio_of(mode).limit, k;
+    size_t limit = radio_of(mode).limit, k;
     for (k = 0; k < sizeof octets / sizeof *octets; k++) {
         struct frame frame = frame_of(mode, octets[k]);
         struct slice report = slice(zeros, octets[k]);
         checked_line("zeros, room left over", with_room(frame, 200), report);
         checked_line("zeros, room exact", with_room(frame, octets[k]), report);
         checked_line("zeros, room one short", with_room(frame, octets[k] - 1), report);
-        checked_line("zeros, at the limit", every(flip(frame, 0, limit), size), report);
+        checked_line("zeros, at the limit", worn(frame, limit), report);
     }
 }
 
@@ -906,10 +963,28 @@ static void plain_refusals(uint32_t mode)
     checked_line("flat 0 last", put(seven, last, size, 0), report);
     checked_line("flat 1 last", put(seven, last, size, 1), report);
     checked_line("nine errors in the last symbol", flip(seven, last, 9), report);
-    checked_line("every chip inverted", flip(seven, 0, seven.chips), report);
     checked_line("no such mode", read_as(seven, MODES), report);
     checked_line("no such mode", read_as(seven, 256 + mode), report);
     checked_line("no such mode", read_as(seven, 65536 + mode), report);
+}
+
+/* Inverted, a report that passes does so in mode 0, and one that doesn't is refused as ever.
+ * Turned over where the report begins, only the FCS can tell. */
+static void checked_inverted(uint32_t mode)
+{
+    uint8_t octets[REPORT];
+    struct frame seven = frame_of(mode, 7), over = inverse(seven, 0);
+    size_t report = octet_at(mode, 6), bit = report - radio_of(mode).size;
+    struct frame longest = inverse(frame_of(mode, 127), radio_of(mode).limit);
+    checked_line("inverted", over, sealed(octets, 5));
+    checked_line("inverted, room exact", with_room(over, 7), sealed(octets, 5));
+    checked_line("inverted, room one short", with_room(over, 6), sealed(octets, 5));
+    checked_line("inverted, at the limit", longest, sealed(octets, 125));
+    checked_line("inverted, few", inverse(frame_of(mode, 2), 0), slice(sample, 2));
+    checked_line("inverted, highest bit wrong", over, spoilt(octets, 5, 15));
+    checked_line("inverted, zeros", inverse(frame_of(mode, 3), 0), slice(zeros, 3));
+    checked_line("inverted from the reserved bit on", flip(seven, bit, LONGEST), sealed(octets, 5));
+    checked_line("inverted from the report on", flip(seven, report, LONGEST), sealed(octets, 5));
 }
 
 static void checked_readings_of(uint32_t mode)
@@ -919,6 +994,7 @@ static void checked_readings_of(uint32_t mode)
     wrong_checks(mode);
     all_zeros(mode);
     plain_refusals(mode);
+    checked_inverted(mode);
 }
 
 /* ---- A record, and what the calls make of it ---- */
@@ -959,8 +1035,8 @@ static void probe(const char *what, lernazhup_receiver record, struct slice part
 {
     printf("%s: record %" PRIu32 " %" PRIu32 " %" PRIu32 " %" PRIu32, what, record.mode, record.ended, record.taken,
            record.length);
-    printf(" %" PRIu32 " %" PRIu32 " %" PRIu32 " %" PRIu32, record.count, record.last, record.octet,
-           record.gap);
+    printf(" %" PRIu32 " %" PRIu32 " %" PRIu32 " %" PRIu32 " %" PRIu32, record.count, record.last,
+           record.octet, record.gap, record.polarity);
     answer(", push", record, lernazhup_push(record, part.first, part.count));
     answer(", push of none", record, lernazhup_push(record, NULL, 0));
     answer(", finish", record, lernazhup_finish(record));
@@ -1054,13 +1130,29 @@ static void stories(uint32_t mode)
     size_t start = octet_at(mode, 4), length = octet_at(mode, 5), report = octet_at(mode, 6);
     size_t inside = octet_at(mode, 8), next = inside + size;
     story("whole frame", five, five.chips, 0);
-    story("longest frame at the limit", every(flip(longest, 0, limit), size), longest.chips, 0);
+    story("longest frame at the limit", worn(longest, limit), longest.chips, 0);
     story("cut in an octet of the report", five, next, next);
     story("byte 2 in the report", put(five, inside + 7, 1, 2), inside, inside);
     story("flat symbol in the report", put(five, inside, size, 0), inside, inside);
     story("preamble not zero", five, start - size, start);
     story("wrong start octet", five, length - size, 0);
     story("reserved bit set", five, report - size, report);
+}
+
+/* Frames inverted from the first symbol on, or turned over behind it, whole and with a symbol
+ * refused: a record keeps its polarity, and take tells none of a refusal. */
+static void inverted_stories(uint32_t mode)
+{
+    struct frame five = frame_of(mode, 5), over = inverse(five, 0), longest = frame_of(mode, 127);
+    size_t size = radio_of(mode).size, limit = radio_of(mode).limit;
+    size_t start = octet_at(mode, 4), next = octet_at(mode, 8) + size;
+    story("inverted, before the first symbol", over, 0, 0);
+    story("inverted", over, five.chips, 0);
+    story("longest frame inverted, at the limit", inverse(longest, limit), longest.chips, 0);
+    story("inverted, cut in an octet of the report", over, next, next);
+    story("inverted, preamble not zero", over, start - size, start);
+    story("first symbol alone inverted", flip(five, 0, size), size, size);
+    story("inverted from symbol 1 on", flip(five, size, LONGEST), size, size);
 }
 
 /* ---- Made-up records ---- */
@@ -1158,6 +1250,30 @@ static void gaps(uint32_t mode, struct slice part)
     }
 }
 
+/* Polarities that no frame has: no test looks at them, take tells the lowest bit in mode 0 of a
+ * record that has ended well, and push keeps them. But the first symbol of mode 0 settles the
+ * polarity, and no symbol stands before it, whatever the record holds. */
+static void polarities(uint32_t mode, struct slice part)
+{
+    static const uint32_t held[] = {0, 1, 2, 3, MOST};
+    uint32_t last = symbols_in(mode, 11) - 1;
+    size_t k;
+    for (k = 0; k < sizeof held / sizeof *held; k++) {
+        lernazhup_receiver record = made_up(mode, LERNAZHUP_MORE, last, 5, 0);
+        record.polarity = held[k];
+        fates("strange polarity", record, part);
+        record.taken = last + 1;
+        record.ended = LERNAZHUP_DONE;
+        probe("strange polarity", record, part, 127);
+        probe("strange polarity, no room", record, part, 4);
+        record = made_up(mode, LERNAZHUP_MORE, 0, 0, 0);
+        record.polarity = record.last = held[k];
+        fates("strange before the first symbol", record, part);
+        record.taken = 1;
+        fates("strange before the second", record, part);
+    }
+}
+
 /* Whether a symbol was pushed as it was matched, to a record with no chips repaired and no gap yet:
  * refused with the same number, or its word, its distance and its gap taken over. */
 static int pushed_as(lernazhup_matched matched, lernazhup_step step)
@@ -1168,13 +1284,13 @@ static int pushed_as(lernazhup_matched matched, lernazhup_step step)
            step.receiver.gap == matched.next - matched.nearest;
 }
 
-/* Every symbol that there is, pushed as the first of a report, in the modes whose symbols are few
- * enough to be tried: how many are near a word, as the header says of random ones, and how far they
- * are from it, all added up. */
-static void every_symbol(uint32_t mode)
+/* Every symbol that there is, pushed to one record, in the modes whose symbols are few enough to be
+ * tried: how many are near a word, as the header says of random ones, how far they are from it, all
+ * added up, and how many bring the other polarity. */
+static void every_symbol(const char *what, lernazhup_receiver record)
 {
-    lernazhup_receiver record = made_up(mode, LERNAZHUP_MORE, symbols_in(mode, 6), 5, 0);
-    uint32_t size = radio_of(mode).size, bits, read = 0, lost = 0, repaired = 0, otherwise = 0;
+    uint32_t size = radio_of(record.mode).size, bits, read = 0, lost = 0;
+    uint32_t repaired = 0, inverses = 0, otherwise = 0;
     uint8_t part[FEW_CHIPS];
     if (size > FEW_CHIPS)
         return;
@@ -1185,10 +1301,20 @@ static void every_symbol(uint32_t mode)
         read += step.number == LERNAZHUP_MORE;
         lost += step.number == LERNAZHUP_LOST;
         repaired += step.receiver.count;
-        otherwise += !pushed_as(lernazhup_match(mode, part, size), step);
+        inverses += step.receiver.polarity;
+        otherwise += !pushed_as(lernazhup_match(record.mode, part, size), step);
     }
-    printf("every symbol: push %" PRIu32 " gives %" PRIu32 " read, %" PRIu32 " lost, ", mode, read, lost);
-    printf("%" PRIu32 " repaired, %" PRIu32 " matched otherwise\n", repaired, otherwise);
+    printf("%s: push %" PRIu32 " gives %" PRIu32 " read, ", what, record.mode, read);
+    printf("%" PRIu32 " lost, %" PRIu32 " repaired, ", lost, repaired);
+    printf("%" PRIu32 " inverted, %" PRIu32 " matched otherwise\n", inverses, otherwise);
+}
+
+/* As the first of a report; and as the first of a frame, where mode 0 takes either word, and mode 2
+ * none but word 0. */
+static void every_symbol_of(uint32_t mode)
+{
+    every_symbol("every symbol", made_up(mode, LERNAZHUP_MORE, symbols_in(mode, 6), 5, 0));
+    every_symbol("every first symbol", lernazhup_start(mode).receiver);
 }
 
 /* The first symbol of a frame is what is pushed to made-up records. */
@@ -1199,6 +1325,7 @@ static void records_of(uint32_t mode)
     make(frame_of(mode, 0), chips);
     started(mode);
     stories(mode);
+    inverted_stories(mode);
     edges(mode, 0, part);
     edges(mode, 127, part);
     strange(mode, part);
@@ -1207,7 +1334,8 @@ static void records_of(uint32_t mode)
     hand(mode, 5, 0, part);
     hand(mode, 10, 5, part);
     gaps(mode, part);
-    every_symbol(mode);
+    polarities(mode, part);
+    every_symbol_of(mode);
 }
 
 int main(void)

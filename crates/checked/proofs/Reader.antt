@@ -29,7 +29,7 @@ module _ (buffer aside : List ℕ) (r : Reading) (exit : List ℕ) where
   fits : (a : Answer) → outcome r exit ≡ answered a aside → length exit ≡ length aside → r .n ≤ length aside
   unfolding told left
   fits (refused x place) p l = omega (arith, ap (λ (o : Outcome Reading). o .answer .n) p)
-  fits (done place report count gap) p l =
+  fits (done place report count gap polarity) p l =
       let e : r .n ≡ length report = ap (λ (o : Outcome Reading). o .answer .n) p in
       let b : exit ≡ report ++ drop (length report) aside = ap (λ (o : Outcome Reading). o .buffer) p in
       omega (arith, e, ap length b, length-append report (drop (length report) aside))
@@ -38,13 +38,13 @@ module _ (buffer aside : List ℕ) (r : Reading) (exit : List ℕ) where
   stays : (a : Answer) → outcome r exit ≡ answered a aside → (r .number ≡ DONE → ⊥) → outcome r buffer ≡ answered (checkedAnswer a) buffer
   unfolding told left checkedAnswer
   stays (refused x place) p n = ap (λ (o : Outcome Reading). outcome (o .answer) buffer) p
-  stays (done place report count gap) p n = absurd (n (ap (λ (o : Outcome Reading). o .answer .number) p))
+  stays (done place report count gap polarity) p n = absurd (n (ap (λ (o : Outcome Reading). o .answer .number) p))
 
   module _ (octets : List ℕ) (o : take (r .n) octets ≡ take (r .n) exit) (d : r .number ≡ DONE) (number : ℕ) (k : number ≡ checkOf (take (r .n) octets)) where
     -- the report that was read
-    read-report : (place count gap : ℕ) (report : List ℕ) → outcome r exit ≡ answered (done place report count gap) aside → take (r .n) octets ≡ report
+    read-report : (place count gap polarity : ℕ) (report : List ℕ) → outcome r exit ≡ answered (done place report count gap polarity) aside → take (r .n) octets ≡ report
     unfolding left told
-    read-report place count gap report p =
+    read-report place count gap polarity report p =
         let e : r .n ≡ length report = ap (λ (o : Outcome Reading). o .answer .n) p in
         o ∙ rw (e, ap (λ (o : Outcome Reading). o .buffer) p) (front report aside)
 
@@ -53,8 +53,8 @@ module _ (buffer aside : List ℕ) (r : Reading) (exit : List ℕ) where
         → (t : Reading) → t ≡ told (refused number (r .place)) → outcome t buffer ≡ answered (checkedAnswer a) buffer
     unfolding told left checkedAnswer
     refuses (refused x place) f p n t e = absurd (f (sym (ap (λ (o : Outcome Reading). o .answer .number) p) ∙ d))
-    refuses (done place report count gap) f p n t e =
-        let c : number ≡ checkOf report = k ∙ ap checkOf (read-report place count gap report p) in
+    refuses (done place report count gap polarity) f p n t e =
+        let c : number ≡ checkOf report = k ∙ ap checkOf (read-report place count gap polarity report p) in
         let q : r .place ≡ place = ap (λ (o : Outcome Reading). o .answer .place) p in
         rw (ne-eqb (checkOf report) DONE (λ z. n (c ∙ z)), e, q, c)
 
@@ -63,14 +63,14 @@ module _ (buffer aside : List ℕ) (r : Reading) (exit : List ℕ) where
         → outcome r (storedIn (r .n) octets buffer) ≡ answered (checkedAnswer a) buffer
     unfolding told left checkedAnswer
     stores (refused x place) f p z l m b = absurd (f (sym (ap (λ (o : Outcome Reading). o .answer .number) p) ∙ d))
-    stores (done place report count gap) f p z l m b =
-        let rep = read-report place count gap report p in
+    stores (done place report count gap polarity) f p z l m b =
+        let rep = read-report place count gap polarity report p in
         let c : checkOf report ≡ DONE = sym (k ∙ ap checkOf rep) ∙ z in
         let e : r .n ≡ length report = ap (λ (o : Outcome Reading). o .answer .n) p in
         let s = storedIn (r .n) octets buffer in
         ap (λ (o : Outcome Reading). outcome (o .answer) s) p
-        ∙ ap (λ (n : ℕ). outcome (reported place n count gap) s) (sym e)
-        ∙ stored-done place (r .n) count gap octets buffer m l b
+        ∙ ap (λ (n : ℕ). outcome (reported place n count gap polarity) s) (sym e)
+        ∙ stored-done place (r .n) count gap polarity octets buffer m l b
         ∙ rw (rep, eq-eqb (checkOf report) DONE c)
 
 -- as many of the octets aside as there is room for

@@ -9,7 +9,7 @@ use Rattle.codes.specs.Chips.{distance, bad}
 use Rattle.codes.specs.Radio.{lowband, lowbandWord, lowbandWords, turnedWords, turns, turned, oddInverted}
 use Rattle.codes.specs.Symbol.{least, first, nearest, nearestWord, nearestBut, symbolOf}
 use Rattle.frame.specs.Outcome.{Outcome, outcome}
-use Rattle.frame.specs.Frame.{digits, raws, encode, symbolsWith, chipsOf, frameWith}
+use Rattle.frame.specs.Frame.{digits, raws, encode, formed, symbolsWith, chipsOf, frameWith}
 use Rattle.frame.specs.Write.{written}
 use Rattle.reader.specs.declared.Reading.{Reading}
 use Rattle.order.specs.Received.{decode, valueOf, octetsFrom}
@@ -40,11 +40,11 @@ write-sheet = (refl, refl, refl, refl, refl, refl, refl)
 
 -- a refusal, the buffer as it was
 abbrev refusal : ℕ → ℕ → List ℕ → Outcome Reading
-refusal x place buffer = outcome (record { number = x; place = place; n = 0; count = 0; gap = 0 }) buffer
+refusal x place buffer = outcome (record { number = x; place = place; n = 0; count = 0; gap = 0; polarity = 0 }) buffer
 
 -- frames of mode 2, with the reserved bit as given, read into a buffer
 abbrev readWith : ℕ → List ℕ → List ℕ → Outcome Reading
-readWith bit report buffer = readCheckedOf 2 (frameWith lowband bit report) buffer
+readWith bit report buffer = readCheckedOf 2 (frameWith lowband (formed bit 0) report) buffer
 
 abbrev readInto : List ℕ → List ℕ → Outcome Reading
 readInto report buffer = readWith 0 report buffer
@@ -57,7 +57,7 @@ pub read-sheet : (readInto (0 ∷ 0 ∷ []) (7 ∷ 7 ∷ []) ≡ refusal 14 16 (
     × (readInto (0 ∷ 0 ∷ 0 ∷ []) (7 ∷ 7 ∷ 7 ∷ []) ≡ refusal 16 18 (7 ∷ 7 ∷ 7 ∷ []))
     × (readInto (0 ∷ 0 ∷ 0 ∷ []) (7 ∷ 7 ∷ []) ≡ refusal 3 11 (7 ∷ 7 ∷ []))
     × (readInto (0x02 ∷ 0x00 ∷ 0x6A ∷ 0xE4 ∷ 0x79 ∷ []) (7 ∷ 7 ∷ 7 ∷ 7 ∷ 7 ∷ 9 ∷ [])
-    ≡ outcome (record { number = 0; place = 22; n = 5; count = 0; gap = 6 }) (0x02 ∷ 0x00 ∷ 0x6A ∷ 0xE4 ∷ 0x79 ∷ 9 ∷ []))
+    ≡ outcome (record { number = 0; place = 22; n = 5; count = 0; gap = 6; polarity = 0 }) (0x02 ∷ 0x00 ∷ 0x6A ∷ 0xE4 ∷ 0x79 ∷ 9 ∷ []))
 unfolding distance bad lowbandWord lowbandWords turnedWords turns turned oddInverted least first nearest nearestWord nearestBut symbolOf digits raws
     encode symbolsWith chipsOf frameWith decode valueOf octetsFrom windows rules repaired smallestGap concluded taking
     readingFrom reading told left answerAt checkOf
@@ -67,7 +67,7 @@ read-sheet = (refl, refl, refl, refl, refl)
 -- With the reserved bit set the acknowledgement is read all the same, and into too short a buffer
 -- it is 3.
 pub reserved-sheet : (readWith 1 (0x02 ∷ 0x00 ∷ 0x6A ∷ 0xE4 ∷ 0x79 ∷ []) (7 ∷ 7 ∷ 7 ∷ 7 ∷ 7 ∷ 9 ∷ [])
-    ≡ outcome (record { number = 0; place = 22; n = 5; count = 0; gap = 6 }) (0x02 ∷ 0x00 ∷ 0x6A ∷ 0xE4 ∷ 0x79 ∷ 9 ∷ []))
+    ≡ outcome (record { number = 0; place = 22; n = 5; count = 0; gap = 6; polarity = 0 }) (0x02 ∷ 0x00 ∷ 0x6A ∷ 0xE4 ∷ 0x79 ∷ 9 ∷ []))
     × (readWith 1 (0x02 ∷ 0x00 ∷ 0x6A ∷ 0xE4 ∷ 0x79 ∷ []) (7 ∷ 7 ∷ 7 ∷ 7 ∷ []) ≡ refusal 3 11 (7 ∷ 7 ∷ 7 ∷ 7 ∷ []))
 unfolding distance bad lowbandWord lowbandWords turnedWords turns turned oddInverted least first nearest nearestWord nearestBut symbolOf digits raws
     encode symbolsWith chipsOf frameWith decode valueOf octetsFrom windows rules repaired smallestGap concluded taking

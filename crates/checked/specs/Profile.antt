@@ -42,8 +42,8 @@ checkOf octets =
 -- refusal of the plain reader stays as it is.
 unfoldable pub checkedAnswer : Answer → Answer
 checkedAnswer (refused x place) = refused x place
-checkedAnswer (done place report count gap) =
-    pick (eqb (checkOf report) DONE) (done place report count gap) (refused (checkOf report) place)
+checkedAnswer (done place report count gap polarity) =
+    pick (eqb (checkOf report) DONE) (done place report count gap polarity) (refused (checkOf report) place)
 
 -- the reader: what is given back and what the report buffer holds goes by the answer, as in the
 -- plain profile

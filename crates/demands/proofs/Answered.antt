@@ -1,44 +1,58 @@
 -- Windows that begin with the symbols of one of a report's frames: they have that frame's reserved
--- bit, and where the report has room their reading answers it; where it has none, that is 3. For
--- any sound radio. Assumes nothing.
-use mathlib.Core.Path.{_≡_, refl, sym, ap, _∙_}
+-- bit and polarity, and where the report has room their reading answers it; where it has none, that
+-- is 3. For any sound radio. Assumes nothing.
+use mathlib.Core.Path.{_≡_, refl, sym, ap, ap₂, _∙_}
 use mathlib.Core.List.{List, []}
 use Prim.Native.Nat.{ℕ, suc, _-_, _*_, _/_, _≤_, _<_}
-use native.Mathlib.Nat.{add-mul}
+use native.Mathlib.Nat.{add-mul, mul-le-mul-right, le-add-right}
 use native.Mathlib.Omega.{arith}
-use lib.ListN.{length, take}
+use lib.ListN.{length, getD, take}
 use lib.Seq.{ext-getD, take-all}
 use Rattle.codes.specs.Numbers.{NOROOM}
 use Rattle.codes.specs.Radio.{Radio, Sound}
 use Rattle.codes.specs.declared.Symbol.{Symbol}
-use Rattle.frame.specs.Frame.{perOctet, octetsWith, raws, symbols, symbolsWith}
-use Rattle.frame.proofs.Chain.{encode-long}
+use Rattle.codes.proofs.Tests.{by-test}
+use Rattle.frame.specs.Frame.{perOctet, octetsWith, raws, sent, Form, formed, symbols, symbolsWith}
+use Rattle.frame.proofs.Chain.{encode-long, symbols-first}
 use Rattle.frame.proofs.Count.{raws-below, symbols-long, symbols-same}
-use Rattle.order.specs.Received.{decode, received, octetAt}
+use Rattle.order.specs.Received.{decode, chainStart, polarityOf, received, octetAt}
 use Rattle.order.specs.Order.{refused, done, values, smallestGap, readingFrom}
-use Rattle.demands.specs.Words.{Report, bitIn}
-use Rattle.demands.proofs.Back.{decode-take, decode-encode}
+use Rattle.demands.specs.Words.{Report, formIn}
+use Rattle.demands.proofs.Back.{received-take, decode-encode}
 use Rattle.order.proofs.Raw.{per-positive}
 use Rattle.demands.proofs.Path.{rawsTo, Run, ending, run-reading, run-refused}
 use Rattle.order.proofs.Windows.{seen}
-use Rattle.demands.proofs.Framed.{bit-in, report-in, framed-more, framed-done, framed-short}
-use Rattle.demands.proofs.Stands.{Stands, values-long, values-at, values-take, octet-front}
+use Rattle.demands.proofs.Framed.{bit-in, report-in, all-long, preamble-in, framed-more, framed-done, framed-short}
+use Rattle.demands.proofs.Stands.{Stands, values-long, values-at, values-take, octet-front, polarity-front}
+use Rattle.demands.proofs.Forms.{Proper}
 
-module _ (r : Radio) (S : Sound r) (ws : List (List ℕ)) (bit : ℕ) (low : bit ≤ 1) (report : List ℕ) (P : Report report)
-    (count : ℕ) (T : Stands r ws (symbolsWith r bit report) count) where
+module _ (r : Radio) (S : Sound r) (ws : List (List ℕ)) (form : Form) (F : Proper r form) (report : List ℕ) (P : Report report)
+    (count : ℕ) (T : Stands r ws (symbolsWith r form report) count) where
   abbrev vs : List ℕ
-  vs = symbolsWith r bit report
+  vs = symbolsWith r form report
 
   abbrev all : List ℕ
-  all = raws r (octetsWith bit report)
+  all = raws r (octetsWith (form .bit) report)
 
   long : length vs ≡ length all
   unfolding symbolsWith
-  long = encode-long r 0 all
+  long = encode-long r (form .polarity) all
 
-  raw-again : decode r 0 vs ≡ all
+  some : 0 < length all
+  some = omega (arith, all-long r S (form .bit) (F .low) report P, per-positive r S, mul-le-mul-right (perOctet r) (le-add-right 6 (length report)))
+
+  -- the first symbol of the frame is its polarity: the first raw one is 0
+  polarity-sent : polarityOf r vs ≡ form .polarity
+  polarity-sent =
+      let nought = preamble-in r S (form .bit) (F .low) report P 0 (omega (arith, per-positive r S)) in
+      let e : getD vs 0 0 ≡ sent r (form .polarity) 0 = symbols-first r form report some ∙ ap (sent r (form .polarity)) nought in
+      ap (chainStart r) e ∙ by-test (r .chained) (λ c. rw c (omega (arith, rw c at (F .start)))) (λ c. rw c (rw c at (F .start)))
+
+  raw-again : received r vs ≡ all
   unfolding symbolsWith
-  raw-again = decode-encode r S 0 all (raws-below r (octetsWith bit report))
+  raw-again =
+      ap (λ (e : ℕ). decode r e vs) polarity-sent
+      ∙ decode-encode r S (form .polarity) all (raws-below r (octetsWith (form .bit) report))
 
   -- the values read are the frame's symbols
   values-are : values (take (length vs) (seen r ws)) ≡ vs
@@ -50,19 +64,21 @@ module _ (r : Radio) (S : Sound r) (ws : List (List ℕ)) (bit : ℕ) (low : bit
   -- and so are the raw ones
   raws-are : (j : ℕ) → j < length vs → rawsTo r ws (suc j) ≡ take (suc j) all
   raws-are j h =
-      ap (decode r 0) (values-take r ws (suc j) (length vs) h ∙ ap (take (suc j)) values-are)
-      ∙ sym (decode-take r 0 (suc j) vs)
+      ap (received r) (values-take r ws (suc j) (length vs) h ∙ ap (take (suc j)) values-are)
+      ∙ sym (received-take r (suc j) vs)
       ∙ ap (take (suc j)) raw-again
 
   headed : 6 * perOctet r ≤ length vs
-  headed = omega (arith, symbols-long r bit report, add-mul 6 (length report) (perOctet r))
+  headed = omega (arith, symbols-long r form report, add-mul 6 (length report) (perOctet r))
 
-  -- the reserved bit that they have
-  pub bit-read : bitIn r ws ≡ bit
-  bit-read =
-      ap (λ (x : ℕ). x / 128)
+  -- the reserved bit and the polarity that they have
+  pub form-read : formIn r ws ≡ form
+  form-read =
+      ap₂ formed
+      (ap (λ (x : ℕ). x / 128)
       (sym (octet-front r ws 5 (length vs) headed) ∙ ap (λ (l : List ℕ). octetAt r 5 (received r l)) values-are ∙ ap (octetAt r 5) raw-again)
-      ∙ bit-in r S bit low report P
+      ∙ bit-in r S (form .bit) (F .low) report P)
+      (sym (polarity-front r ws (length vs) (omega (arith, long, some))) ∙ ap (polarityOf r) values-are ∙ polarity-sent)
 
   module _ (room : ℕ) (fits : length report ≤ room) (k : ℕ) (e : suc k ≡ length vs) where
     run : Run r room ws 0 k
@@ -71,25 +87,28 @@ module _ (r : Radio) (S : Sound r) (ws : List (List ℕ)) (bit : ℕ) (low : bit
           from = omega arith;
           inside = omega (arith, T .enough);
           good = λ j u v. ap (λ (x : Symbol). x .number) (T .stands j (omega arith));
-          more = λ j u v. rw (raws-are j (omega arith)) (framed-more r S bit low report P room j (λ _. fits) (omega (arith, long)));
-          last = rw (raws-are k (omega arith)) (framed-done r S bit low report P room k (λ _. fits) (e ∙ long));
+          more = λ j u v. rw (raws-are j (omega arith)) (framed-more r S (form .bit) (F .low) report P room j (λ _. fits) (omega (arith, long)));
+          last = rw (raws-are k (omega arith)) (framed-done r S (form .bit) (F .low) report P room k (λ _. fits) (e ∙ long));
         }
 
     all-in : rawsTo r ws (suc k) ≡ all
     all-in = raws-are k (omega arith) ∙ take-all (suc k) all (omega (arith, long))
 
-    ends : ending r ws k ≡ done (length vs) report count (smallestGap (take (length vs) (seen r ws)))
-    ends = rw (all-in, e, report-in r S bit low report P, ← T .total)
+    ends : ending r ws k ≡ done (length vs) report count (smallestGap (take (length vs) (seen r ws))) (form .polarity)
+    ends =
+        let polarity : polarityOf r (values (take (length vs) (seen r ws))) ≡ form .polarity = ap (polarityOf r) values-are ∙ polarity-sent in
+        rw (all-in, e, report-in r S (form .bit) (F .low) report P, ← T .total, polarity)
 
-    answered-at : readingFrom r room [] ws ≡ done (length vs) report count (smallestGap (take (length vs) (seen r ws)))
+    answered-at : readingFrom r room [] ws ≡ done (length vs) report count (smallestGap (take (length vs) (seen r ws))) (form .polarity)
     answered-at = run-reading r room ws k run ∙ ends
 
   -- the reading answers the report
   pub windows-answer : (room : ℕ) → length report ≤ room
-      → readingFrom r room [] ws ≡ done (length (symbols r report)) report count (smallestGap (take (length (symbols r report)) (seen r ws)))
+      → readingFrom r room [] ws
+      ≡ done (length (symbols r report)) report count (smallestGap (take (length (symbols r report)) (seen r ws))) (form .polarity)
   windows-answer room fits =
       answered-at room fits (length vs - 1) (omega (arith, headed, per-positive r S))
-      ∙ ap (λ (n : ℕ). done n report count (smallestGap (take n (seen r ws)))) (symbols-same r bit report)
+      ∙ ap (λ (n : ℕ). done n report count (smallestGap (take n (seen r ws))) (form .polarity)) (symbols-same r form report)
 
   -- and refuses it at the last symbol of the length octet where there is too little
   pub windows-short : (room : ℕ) → room < length report → readingFrom r room [] ws ≡ refused NOROOM (6 * perOctet r - 1)
@@ -98,5 +117,5 @@ module _ (r : Radio) (S : Sound r) (ws : List (List ℕ)) (bit : ℕ) (low : bit
       let e : suc k ≡ 6 * perOctet r = omega (arith, per-positive r S) in
       run-refused r room ws k NOROOM (omega (arith, headed, T .enough)) (λ j l. ap (λ (x : Symbol). x .number) (T .stands j (omega (arith, headed))))
       (λ j l. rw (raws-are j (omega (arith, headed)))
-      (framed-more r S bit low report P room j (λ q. absurd (omega (arith, e))) (omega (arith, headed, long))))
-      (rw (raws-are k (omega (arith, headed))) (framed-short r S bit low report P room k short e)) refl refl
+      (framed-more r S (form .bit) (F .low) report P room j (λ q. absurd (omega (arith, e))) (omega (arith, headed, long))))
+      (rw (raws-are k (omega (arith, headed))) (framed-short r S (form .bit) (F .low) report P room k short e)) refl refl

@@ -9,7 +9,7 @@ use Rattle.codes.specs.Radio.{Radio, Sound}
 use Rattle.codes.proofs.Tests.{by-test}
 use Rattle.frame.specs.Frame.{sent, encode}
 use Rattle.frame.proofs.Below.{Below}
-use Rattle.order.specs.Received.{rawAfter, decode}
+use Rattle.order.specs.Received.{rawAfter, decode, chainStart, received}
 
 module _ (r : Radio) where
   -- the first raw symbols are those of the first values
@@ -18,6 +18,12 @@ module _ (r : Radio) where
   decode-take last zero vs = refl
   decode-take last (suc k) [] = refl
   decode-take last (suc k) (v ∷ vs) = ap (λ (l : List ℕ). rawAfter r last v ∷ l) (decode-take v k vs)
+
+  pub received-take : (k : ℕ) (vs : List ℕ) → take k (received r vs) ≡ received r (take k vs)
+  unfolding decode
+  received-take zero vs = refl
+  received-take (suc k) [] = refl
+  received-take (suc k) (v ∷ vs) = decode-take (chainStart r v) (suc k) (v ∷ vs)
 
   module _ (S : Sound r) where
     raw-sent : (last b : ℕ) → b < 2 ^ r .bits → rawAfter r last (sent r last b) ≡ b

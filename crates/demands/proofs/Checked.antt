@@ -22,7 +22,7 @@ use Rattle.codes.proofs.Tests.{by-pick, by-test}
 use Rattle.codes.proofs.Facts.{sound}
 use Rattle.frame.specs.declared.Written.{Written}
 use Rattle.frame.specs.Outcome.{Outcome}
-use Rattle.frame.specs.Frame.{symbols, frame}
+use Rattle.frame.specs.Frame.{Form, symbols, frame, frameWith}
 use Rattle.frame.specs.Write.{unwritten, written}
 use Rattle.frame.proofs.Below.{Below, at-below, below-at}
 use Rattle.reader.specs.declared.Reading.{Reading}
@@ -36,7 +36,7 @@ use Rattle.checked.specs.Profile.{allZero, body, checkOf, checkedAnswer, readCh
 use Rattle.checked.proofs.Tests.{short-check}
 use Rattle.checked.proofs.Passing.{check-wrong, check-zeros, passes-check, check-passes, check-numbers}
 use Rattle.checked.proofs.Passing.{zeros-are, are-zeros, not-zeros, body-not-zeros, with-body}
-use Rattle.demands.specs.Words.{Report, frames, OneOf, apartIn, success}
+use Rattle.demands.specs.Words.{Report, forms, OneOf, apartIn, success}
 use Rattle.demands.specs.Calls.{Call, after, counted, inOrder, tells}
 use Rattle.demands.specs.Profile.{Passes}
 use Rattle.demands.proofs.Demand1.{leaves, read-bad-mode, read-numbers, write-refused, write-numbers}
@@ -53,14 +53,14 @@ use Rattle.demands.proofs.Reader.{told-done, success-done}
 stays : (a : Answer) (buffer : List ℕ) → (told a .number ≡ DONE → ⊥) → answered (checkedAnswer a) buffer ≡ answered a buffer
 unfolding checkedAnswer told
 stays (refused x place) buffer n = refl
-stays (done place report count gap) buffer n = absurd (n refl)
+stays (done place report count gap polarity) buffer n = absurd (n refl)
 
 -- what the plain reader reads are octets
-read-octets : (mode : ℕ) (chips buffer report : List ℕ) (count gap : ℕ) → readOf mode chips buffer ≡ success mode buffer report count gap → Below 256 report
-read-octets mode chips buffer report count gap o =
+read-octets : (mode : ℕ) (chips buffer report : List ℕ) (count gap polarity : ℕ) → readOf mode chips buffer ≡ success mode buffer report count gap polarity → Below 256 report
+read-octets mode chips buffer report count gap polarity o =
     by-test (known mode)
     (λ k.
-    let a = success-done mode k chips buffer report count gap o .0 in
+    let a = success-done mode k chips buffer report count gap polarity o .0 in
     let h = answer-room (radioOf mode) (sound mode) (length buffer) chips report count a in
     at-below 256 report (demand-3 (radioOf mode) (sound mode) (length buffer) chips report count h .0 a .0 .octets))
     (λ f.
@@ -72,9 +72,9 @@ module _ (mode : ℕ) (chips buffer : List ℕ) where
   pub checked-refusal : (readOf mode chips buffer .answer .number ≡ DONE → ⊥) → readCheckedOf mode chips buffer ≡ readOf mode chips buffer
   checked-refusal = stays (answerAt mode (length buffer) chips) buffer
 
-  module _ (report : List ℕ) (count gap : ℕ) (o : readOf mode chips buffer ≡ success mode buffer report count gap) where
-    is-done : answerAt mode (length buffer) chips ≡ done (length (symbols (radioOf mode) report)) report count gap
-    is-done = told-done mode buffer report count gap (answerAt mode (length buffer) chips) (answer-told mode (length buffer) chips) o
+  module _ (report : List ℕ) (count gap polarity : ℕ) (o : readOf mode chips buffer ≡ success mode buffer report count gap polarity) where
+    is-done : answerAt mode (length buffer) chips ≡ done (length (symbols (radioOf mode) report)) report count gap polarity
+    is-done = told-done mode buffer report count gap polarity (answerAt mode (length buffer) chips) (answer-told mode (length buffer) chips) o
 
     -- A report that it reads is refused by the first test that it doesn't pass ..
     pub checked-refused : (checkOf report ≡ DONE → ⊥) → readCheckedOf mode chips buffer ≡ tells (checkOf report) (length (symbols (radioOf mode) report)) buffer
@@ -82,7 +82,7 @@ module _ (mode : ℕ) (chips buffer : List ℕ) where
     checked-refused n = rw (is-done, ne-eqb (checkOf report) DONE n)
 
     -- .. and given where it passes them all.
-    pub checked-passed : checkOf report ≡ DONE → readCheckedOf mode chips buffer ≡ success mode buffer report count gap
+    pub checked-passed : checkOf report ≡ DONE → readCheckedOf mode chips buffer ≡ success mode buffer report count gap polarity
     unfolding checkedAnswer told left
     checked-passed e = rw (is-done, eq-eqb (checkOf report) DONE e)
 
@@ -99,7 +99,7 @@ module _ (mode : ℕ) (chips buffer : List ℕ) where
 
     -- Three or more that don't end in their FCS are 15.
     pub checked-wrong : 3 ≤ length report → (report ≡ withFcs (body report) → ⊥) → Refused BADCHECK
-    checked-wrong h n = refused-with BADCHECK (check-wrong report (read-octets mode chips buffer report count gap o) h n) refl
+    checked-wrong h n = refused-with BADCHECK (check-wrong report (read-octets mode chips buffer report count gap polarity o) h n) refl
 
     -- And three or more zeros are 16.
     pub checked-zeros : 3 ≤ length report → report ≡ replicate (length report) 0 → Refused ALLZERO
@@ -107,19 +107,19 @@ module _ (mode : ℕ) (chips buffer : List ℕ) where
 
 -- a reading that is done in this profile was done in the plain one, with a report that passes the
 -- tests
-told-checked : (mode : ℕ) (buffer report : List ℕ) (count gap : ℕ) (a : Answer) → Told a
-    → answered (checkedAnswer a) buffer ≡ success mode buffer report count gap
-    → (answered a buffer ≡ success mode buffer report count gap) × (checkOf report ≡ DONE)
+told-checked : (mode : ℕ) (buffer report : List ℕ) (count gap polarity : ℕ) (a : Answer) → Told a
+    → answered (checkedAnswer a) buffer ≡ success mode buffer report count gap polarity
+    → (answered a buffer ≡ success mode buffer report count gap polarity) × (checkOf report ≡ DONE)
 unfolding checkedAnswer told
-told-checked mode buffer report count gap (refused x place) f e = absurd (f (ap (λ (o : Outcome Reading). o .answer .number) e))
-told-checked mode buffer report count gap (done place other c g) f e =
+told-checked mode buffer report count gap polarity (refused x place) f e = absurd (f (ap (λ (o : Outcome Reading). o .answer .number) e))
+told-checked mode buffer report count gap polarity (done place other c g p) f e =
     by-test (eqb (checkOf other) DONE)
     (λ t.
-    let q : answered (done place other c g) buffer ≡ success mode buffer report count gap = rw t at e in
-    let same = same-parts _ _ c count g gap other report (told-done mode buffer report count gap (done place other c g) tt q) .1 in
+    let q : answered (done place other c g p) buffer ≡ success mode buffer report count gap polarity = rw t at e in
+    let same = same-parts _ _ c count g gap p polarity other report (told-done mode buffer report count gap polarity (done place other c g p) tt q) .1 in
     (q, ap checkOf (sym same) ∙ eqb-true (checkOf other) DONE t))
     (λ t.
-    let q : answered (refused (checkOf other) place) buffer ≡ success mode buffer report count gap = rw t at e in
+    let q : answered (refused (checkOf other) place) buffer ≡ success mode buffer report count gap polarity = rw t at e in
     absurd (eqb-false (checkOf other) DONE t (ap (λ (o : Outcome Reading). o .answer .number) q)))
 
 -- what such a reading stored: a report that passes
@@ -130,7 +130,7 @@ stored : (a : Answer) → Told a → (buffer : List ℕ) → told (checkedAnswer
     → Stored (told (checkedAnswer a) .n) (left (checkedAnswer a) buffer)
 unfolding checkedAnswer told left
 stored (refused x place) f buffer = λ e. absurd (f e)
-stored (done place report count gap) f buffer =
+stored (done place report count gap polarity) f buffer =
     by-test (eqb (checkOf report) DONE)
     (λ t. rw t (λ e. (report, eqb-true (checkOf report) DONE t, refl, take-at report (drop (length report) buffer) (length report) refl)))
     (λ g. rw g (λ e. absurd (eqb-false (checkOf report) DONE g e)))
@@ -143,14 +143,14 @@ check-done octets p = (
 )
 
 -- Done exactly when the plain reader is, with a report that passes.
-pub checked-done : (mode : ℕ) (chips buffer report : List ℕ) (count gap : ℕ)
-    → (readCheckedOf mode chips buffer ≡ success mode buffer report count gap)
-    ↔ ((readOf mode chips buffer ≡ success mode buffer report count gap) × Passes report)
-checked-done mode chips buffer report count gap = (
+pub checked-done : (mode : ℕ) (chips buffer report : List ℕ) (count gap polarity : ℕ)
+    → (readCheckedOf mode chips buffer ≡ success mode buffer report count gap polarity)
+    ↔ ((readOf mode chips buffer ≡ success mode buffer report count gap polarity) × Passes report)
+checked-done mode chips buffer report count gap polarity = (
   λ o.
-      let p = told-checked mode buffer report count gap (answerAt mode (length buffer) chips) (answer-told mode (length buffer) chips) o in
-      (p .0, check-done report (read-octets mode chips buffer report count gap (p .0)) .0 (p .1)),
-  λ q. checked-passed mode chips buffer report count gap (q .0) (check-done report (read-octets mode chips buffer report count gap (q .0)) .1 (q .1)),
+      let p = told-checked mode buffer report count gap polarity (answerAt mode (length buffer) chips) (answer-told mode (length buffer) chips) o in
+      (p .0, check-done report (read-octets mode chips buffer report count gap polarity (p .0)) .0 (p .1)),
+  λ q. checked-passed mode chips buffer report count gap polarity (q .0) (check-done report (read-octets mode chips buffer report count gap polarity (q .0)) .1 (q .1)),
 )
 
 -- What a reading that is done in this profile stored is not nothing but zeros, whatever the mode
@@ -238,10 +238,11 @@ checked-write-numbers mode report buffer =
     numbers : List ℕ
     numbers = DONE ∷ BADMODE ∷ TOOLONG ∷ NOROOM ∷ TOOFEW ∷ ALLZERO ∷ []
 
--- A refused reading: n, count and gap 0, report buffer unchanged.
+-- A refused reading: n, count, gap and polarity 0, report buffer unchanged.
 pub checked-read-refused : (mode : ℕ) (chips buffer : List ℕ) → (readCheckedOf mode chips buffer .answer .number ≡ DONE → ⊥)
     → (readCheckedOf mode chips buffer .answer .n ≡ 0) × (readCheckedOf mode chips buffer .answer .count ≡ 0)
-    × (readCheckedOf mode chips buffer .answer .gap ≡ 0) × (readCheckedOf mode chips buffer .buffer ≡ buffer)
+    × (readCheckedOf mode chips buffer .answer .gap ≡ 0) × (readCheckedOf mode chips buffer .answer .polarity ≡ 0)
+    × (readCheckedOf mode chips buffer .buffer ≡ buffer)
 checked-read-refused mode chips buffer = leaves (checkedAnswer (answerAt mode (length buffer) chips)) buffer
 
 -- The reader gives back one of these numbers.
@@ -259,7 +260,7 @@ checked-read-numbers mode chips buffer = go (answerAt mode (length buffer) chips
 
     go : (a : Answer) → among (told a .number) plain ≡ true → among (told (checkedAnswer a) .number) numbers ≡ true
     go (refused x place) f = among-pass (λ y. among y numbers) plain refl x f
-    go (done place report count gap) f =
+    go (done place report count gap polarity) f =
         by-pick (λ (a : Answer). among (told a .number) numbers ≡ true) (eqb (checkOf report) DONE) _ _ (λ _. refl)
         (λ _. among-pass (λ y. among y numbers) (DONE ∷ TOOFEW ∷ BADCHECK ∷ ALLZERO ∷ []) refl (checkOf report) (check-numbers report))
 
@@ -288,18 +289,18 @@ module _ (mode : ℕ) (k : known mode ≡ true) (report : List ℕ) (octets : Be
         some = λ e. some (zeros-front report (fcsOctets report) e);
       }
 
-  -- Each frame of it with its FCS, followed by anything, is read.
-  pub checked-reads-frames : (sent more buffer : List ℕ) → OneOf (frames (radioOf mode) (withFcs report)) sent → length report + 2 ≤ length buffer
-      → readCheckedOf mode (sent ++ more) buffer ≡ success mode buffer (withFcs report) 0 (apartIn mode)
-  checked-reads-frames sent more buffer m l =
-      checked-done mode (sent ++ more) buffer (withFcs report) 0 (apartIn mode) .1
-      (reads-frames mode k (withFcs report) sent more buffer (with-report report octets short) m (omega (arith, with-long report)), with-passes)
+  -- Each frame of it with its FCS, followed by anything, is read, with that frame's polarity.
+  pub checked-reads-frames : (form : Form) → OneOf (forms (radioOf mode)) form → (more buffer : List ℕ) → length report + 2 ≤ length buffer
+      → readCheckedOf mode (frameWith (radioOf mode) form (withFcs report) ++ more) buffer ≡ success mode buffer (withFcs report) 0 (apartIn mode) (form .polarity)
+  checked-reads-frames form m more buffer l =
+      checked-done mode (frameWith (radioOf mode) form (withFcs report) ++ more) buffer (withFcs report) 0 (apartIn mode) (form .polarity) .1
+      (reads-frames mode k (withFcs report) (with-report report octets short) form m more buffer (omega (arith, with-long report)), with-passes)
 
   pub checked-read-back : (chips buffer : List ℕ) → length (frame (radioOf mode) (withFcs report)) ≤ length chips → length report + 2 ≤ length buffer
-      → readCheckedOf mode (writtenChecked mode report chips .buffer) buffer ≡ success mode buffer (withFcs report) 0 (apartIn mode)
+      → readCheckedOf mode (writtenChecked mode report chips .buffer) buffer ≡ success mode buffer (withFcs report) 0 (apartIn mode) 0
   checked-read-back chips buffer h l =
       rw (write-whole mode k chips report one short some)
-      (checked-done mode (written mode (withFcs report) chips .buffer) buffer (withFcs report) 0 (apartIn mode) .1
+      (checked-done mode (written mode (withFcs report) chips .buffer) buffer (withFcs report) 0 (apartIn mode) 0 .1
       (read-back mode k (withFcs report) chips buffer (with-report report octets short) h (omega (arith, with-long report)), with-passes))
 
 -- ---- asked after take
@@ -309,7 +310,7 @@ asked : (a : Answer) → Told a → (buffer : List ℕ) → told a .number ≡ D
     → told (checkedAnswer a) .number ≡ checkOf (take (told a .n) (left a buffer))
 unfolding checkedAnswer told left
 asked (refused x place) f buffer e = absurd (f e)
-asked (done place report count gap) f buffer e =
+asked (done place report count gap polarity) f buffer e =
     let same : take (length report) (report ++ drop (length report) buffer) ≡ report = take-at report (drop (length report) buffer) (length report) refl in
     by-test (eqb (checkOf report) DONE) (λ t. rw (t, same) (sym (eqb-true (checkOf report) DONE t))) (λ g. rw (g, same))
 

@@ -12,7 +12,7 @@ use Rattle.codes.specs.Radio.{Radio, Sound, word}
 use Rattle.codes.specs.Symbol.{symbolOf}
 use Rattle.codes.specs.declared.Symbol.{Symbol}
 use Rattle.codes.proofs.Unique.{Reads, readAs, some-words, of-symbol, symbol-of}
-use Rattle.frame.specs.Frame.{symbols, symbolsWith, frameWith}
+use Rattle.frame.specs.Frame.{Form, symbols, symbolsWith, frameWith}
 use Rattle.order.specs.Order.{window, whole, repaired, smallestGap}
 use Rattle.demands.specs.Words.{frameGap, Near, differences}
 use Rattle.order.proofs.Windows.{whole-long, whole-at, seen, seen-long}
@@ -45,12 +45,12 @@ module _ (r : Radio) (chips : List ℕ) where
         ap (λ (y : Symbol). y .distance) (seen-at r ws k (symbolOf r []) h),
       )
 
-module _ (r : Radio) (S : Sound r) (chips : List ℕ) (bit : ℕ) (report : List ℕ) (count : ℕ) where
+module _ (r : Radio) (S : Sound r) (chips : List ℕ) (form : Form) (report : List ℕ) (count : ℕ) where
   abbrev vs : List ℕ
-  vs = symbolsWith r bit report
+  vs = symbolsWith r form report
 
   abbrev f : List ℕ
-  f = frameWith r bit report
+  f = frameWith r form report
 
   whole-fits : length vs ≤ length (whole r chips) → length vs * r .size ≤ length chips
   whole-fits h = le-div-iff-mul-le (size-pos r S) .0 (omega (arith, whole-long r chips))
@@ -71,34 +71,34 @@ module _ (r : Radio) (S : Sound r) (chips : List ℕ) (bit : ℕ) (report : List
     pub stands-near : Near r chips f count
     stands-near =
         record {
-          long = omega (arith, frame-size r S bit report, whole-fits (T .enough));
-          chip = rw (frame-size r S bit report) (front-chips r chips (length vs) (λ s h. read-at s h .chip));
-          near = λ s l. let h = window-of r S bit report s l in rw (frame-window r S bit report s h) (read-at s h .near);
+          long = omega (arith, frame-size r S form report, whole-fits (T .enough));
+          chip = rw (frame-size r S form report) (front-chips r chips (length vs) (λ s h. read-at s h .chip));
+          near = λ s l. let h = window-of r S form report s l in rw (frame-window r S form report s h) (read-at s h .near);
           sum = T .total
               ∙ repaired-sum r chips f (length vs) (T .enough)
-              (λ j h. rw (whole-at r chips j (omega (arith, T .enough)), frame-window r S bit report j h) (ap (λ (x : Symbol). x .distance) (at-window j h)))
-              ∙ sym (sum-of-windows r S bit report chips (omega (arith, frame-size r S bit report, whole-fits (T .enough))));
+              (λ j h. rw (whole-at r chips j (omega (arith, T .enough)), frame-window r S form report j h) (ap (λ (x : Symbol). x .distance) (at-window j h)))
+              ∙ sym (sum-of-windows r S form report chips (omega (arith, frame-size r S form report, whole-fits (T .enough))));
         }
 
     -- and the reading order's smallest gap is that of the windows
     pub stands-gap : smallestGap (take (length (symbols r report)) (seen r (whole r chips))) ≡ frameGap r chips report
     stands-gap =
-        let e = symbols-same r bit report in
+        let e = symbols-same r form report in
         gap-seen r chips (length (symbols r report)) (some-symbols r S report) (rw (← e) (T .enough))
         (λ j h. ap (λ (x : Symbol). x .number) (at-window j (rw e h)))
 
   module _ (N : Near r chips f count) where
     fits : length vs * r .size ≤ length chips
-    fits = omega (arith, frame-size r S bit report, N .long)
+    fits = omega (arith, frame-size r S form report, N .long)
 
     near-read : (j : ℕ) → j < length vs → symbolOf r (window r chips j) ≡ readAs r (window r chips j) (getD vs j 0)
     near-read j h =
         symbol-of r (window r chips j) S (window-long r chips (length vs) j fits h) (getD vs j 0) (distance (window r chips j) (word r (getD vs j 0)))
         (record {
-          chip = window-chips r chips (length vs) (rw (frame-size r S bit report) at (N .chip)) j h;
-          known = symbol-known r S bit report j h;
+          chip = window-chips r chips (length vs) (rw (frame-size r S form report) at (N .chip)) j h;
+          known = symbol-known r S form report j h;
           apart = refl;
-          near = rw (frame-window r S bit report j h) at (N .near j (window-in r S bit report j h));
+          near = rw (frame-window r S form report j h) at (N .near j (window-in r S form report j h));
         })
 
     -- and those that begin with the frame
@@ -109,7 +109,7 @@ module _ (r : Radio) (S : Sound r) (chips : List ℕ) (bit : ℕ) (report : List
           enough = l;
           stands = λ j h. rw (whole-at r chips j (omega arith)) (near-read j h);
           total = N .sum
-              ∙ sum-of-windows r S bit report chips (N .long)
+              ∙ sum-of-windows r S form report chips (N .long)
               ∙ sym (repaired-sum r chips f (length vs) l
-              (λ j h. rw (whole-at r chips j (omega arith), frame-window r S bit report j h) (ap (λ (x : Symbol). x .distance) (near-read j h))));
+              (λ j h. rw (whole-at r chips j (omega arith), frame-window r S form report j h) (ap (λ (x : Symbol). x .distance) (near-read j h))));
         }

@@ -1,10 +1,12 @@
--- Demand 1. What a refusal leaves: the reader's n, count and gap are 0, the writer's chip count is
--- 0, and the lent buffer is unchanged. The numbers that each gives back are those of the document's
--- table, and a mode that has no radio gives number 1 at place 0. Assumes nothing.
+-- Demand 1. What a refusal leaves: the reader's n, count, gap and polarity are 0, the writer's chip
+-- count is 0, and the lent buffer is unchanged. The numbers that each gives back are those of the
+-- document's table, each where the reading order lets it stand, and a mode that has no radio gives
+-- number 1 at place 0. Assumes nothing.
 use mathlib.Core.Path.{_≡_, refl}
 use mathlib.Core.Bool.{true, false}
 use mathlib.Core.List.{List, [], _∷_}
 use Prim.Native.Nat.{ℕ}
+use native.Mathlib.Omega.{arith}
 use lib.ListN.{length}
 use lib.Dec.{eqb, ltb}
 use Rattle.codes.specs.Numbers.{DONE, BADMODE, TOOLONG, NOROOM, RUNOUT, NOCHIP, LOST, PREAMBLE, BADSTART}
@@ -12,7 +14,7 @@ use Rattle.codes.specs.Radio.{known, radioOf}
 use Rattle.codes.specs.Chips.{among}
 use Rattle.frame.specs.declared.Written.{Written}
 use Rattle.frame.specs.Outcome.{Outcome, outcome}
-use Rattle.frame.specs.Frame.{perOctet, frame}
+use Rattle.frame.specs.Frame.{frame}
 use Rattle.frame.specs.Write.{unwritten, wrote, written}
 use Rattle.order.specs.Order.{Answer, refused, done, reading}
 use Rattle.reader.specs.Read.{told, left, answerAt, readOf}
@@ -23,17 +25,17 @@ use Rattle.demands.proofs.Placed.{Standing, elsewhere, answer-placed}
 
 -- ---- the reader
 
--- an answer that isn't done: n, count and gap 0, report buffer unchanged
+-- an answer that isn't done: n, count, gap and polarity 0, report buffer unchanged
 pub leaves : (a : Answer) (buffer : List ℕ) → (told a .number ≡ DONE → ⊥)
-    → (told a .n ≡ 0) × (told a .count ≡ 0) × (told a .gap ≡ 0) × (left a buffer ≡ buffer)
+    → (told a .n ≡ 0) × (told a .count ≡ 0) × (told a .gap ≡ 0) × (told a .polarity ≡ 0) × (left a buffer ≡ buffer)
 unfolding told left
-leaves (refused x place) buffer n = (refl, refl, refl, refl)
-leaves (done place report count gap) buffer n = absurd (n refl)
+leaves (refused x place) buffer n = (refl, refl, refl, refl, refl)
+leaves (done place report count gap polarity) buffer n = absurd (n refl)
 
--- A refused reading: n, count and gap 0, report buffer unchanged.
+-- A refused reading: n, count, gap and polarity 0, report buffer unchanged.
 pub read-refused : (mode : ℕ) (chips buffer : List ℕ) → (readOf mode chips buffer .answer .number ≡ DONE → ⊥)
     → (readOf mode chips buffer .answer .n ≡ 0) × (readOf mode chips buffer .answer .count ≡ 0) × (readOf mode chips buffer .answer .gap ≡ 0)
-    × (readOf mode chips buffer .buffer ≡ buffer)
+    × (readOf mode chips buffer .answer .polarity ≡ 0) × (readOf mode chips buffer .buffer ≡ buffer)
 read-refused mode chips buffer = leaves (answerAt mode (length buffer) chips) buffer
 
 -- one number more to be among
@@ -51,26 +53,30 @@ read-numbers mode chips buffer = by-pick P (known mode) _ _ (λ _. go (reading (
 
     go : (a : Answer) → Fair a → P a
     go (refused x place) f = among-more x DONE (BADMODE ∷ refusals) (among-more x BADMODE refusals f)
-    go (done place report count gap) f = refl
+    go (done place report count gap polarity) f = refl
 
--- And each stands where the reading order lets it: 7 in the preamble, 8 on the last symbol of the
--- start octet, 3 on that of the length octet.
+-- And each stands where the reading order lets it: 7 in the preamble, but not at the symbol that
+-- settles a polarity, 8 on the last symbol of the start octet, 3 on that of the length octet.
 pub read-places : (mode : ℕ) (chips buffer : List ℕ)
-    → Placed (perOctet (radioOf mode)) (readOf mode chips buffer .answer .number) (readOf mode chips buffer .answer .place)
+    → Placed (radioOf mode) (readOf mode chips buffer .answer .number) (readOf mode chips buffer .answer .place)
 unfolding answerAt told
 read-places mode chips buffer =
     by-pick P (known mode) _ _ (λ _. go (reading (radioOf mode) (length buffer) chips) (answer-placed _ _ _)) (λ _. elsewhere _ _ _ refl)
   where
     P : Answer → Type 0
-    P a = Placed (perOctet (radioOf mode)) (told a .number) (told a .place)
+    P a = Placed (radioOf mode) (told a .number) (told a .place)
 
-    go : (a : Answer) → Standing (perOctet (radioOf mode)) a → P a
+    go : (a : Answer) → Standing (radioOf mode) a → P a
     go (refused x place) f = f
-    go (done place report count gap) f = elsewhere _ _ _ refl
+    go (done place report count gap polarity) f = elsewhere _ _ _ refl
+
+-- So no chips give 7 at symbol 0 in mode 0.
+pub read-first : (chips buffer : List ℕ) → readOf 0 chips buffer .answer .number ≡ PREAMBLE → readOf 0 chips buffer .answer .place ≡ 0 → ⊥
+read-first chips buffer e z = omega (arith, z, read-places 0 chips buffer .second e refl)
 
 -- A mode that has no radio: its number at place 0, before any symbol.
 pub read-bad-mode : (mode : ℕ) (chips buffer : List ℕ) → known mode ≡ false
-    → readOf mode chips buffer ≡ outcome (record { number = BADMODE; place = 0; n = 0; count = 0; gap = 0 }) buffer
+    → readOf mode chips buffer ≡ outcome (record { number = BADMODE; place = 0; n = 0; count = 0; gap = 0; polarity = 0 }) buffer
 unfolding answerAt told left
 read-bad-mode mode chips buffer k = rw k
 

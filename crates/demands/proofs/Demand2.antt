@@ -1,9 +1,9 @@
 -- Demand 2. With room, each frame of a report of at most 127 octets, followed by anything, reads
 -- back as that report with count 0, for every sound radio. And in a mode that has a radio: what the
--- writer wrote, the reader reads, with the least distance of two words as its gap. And a report's
--- two frames are two. Assumes nothing.
-use mathlib.Core.Path.{_≡_, refl, sym, ap, _∙_, subst}
-use mathlib.Core.Logic.{inl}
+-- writer wrote, the reader reads, with the least distance of two words as its gap, and so it reads
+-- each of the report's frames, with that frame's polarity. And frames of a report that were sent in
+-- two ways are two. Assumes nothing.
+use mathlib.Core.Path.{_≡_, refl, sym, ap, ap₂, _∙_, subst}
 use mathlib.Core.Bool.{true, false}
 use mathlib.Core.List.{List, _++_}
 use Prim.Native.Nat.{ℕ, _≤_}
@@ -14,17 +14,16 @@ use borrow.Author.Tests.{le-ltb}
 use Rattle.codes.specs.Chips.{bad}
 use Rattle.codes.specs.Radio.{Radio, Sound, known, radioOf}
 use Rattle.codes.proofs.Facts.{sound}
-use Rattle.frame.specs.Frame.{frame, frameWith}
+use Rattle.frame.specs.Frame.{Form, plain, frame, frameWith}
 use Rattle.frame.specs.Write.{written}
-use Rattle.order.specs.Order.{window, whole}
+use Rattle.order.specs.Order.{window}
 use Rattle.reader.specs.Read.{readOf}
-use Rattle.demands.specs.Words.{Report, frames, OneOf, bitIn, apartIn, Answers, Near, NearOne, success}
-use Rattle.demands.proofs.Demand3.{demand-3}
+use Rattle.demands.specs.Words.{Report, forms, frames, OneOf, apartIn, Answers, Near, success}
+use Rattle.demands.proofs.Demand3.{demand-3, near-form}
 use Rattle.demands.proofs.Repair.{distance-self}
-use Rattle.demands.proofs.Frames.{frame-good, near-same, one-of, bit-of, member-good}
+use Rattle.demands.proofs.Forms.{in-forms, plain-proper, one-of}
+use Rattle.demands.proofs.Frames.{frame-good, near-same, member-good}
 use Rattle.demands.proofs.HowClose.{written-gap, spaced}
-use Rattle.demands.proofs.Close.{near-stands}
-use Rattle.demands.proofs.Answered.{bit-read}
 use Rattle.demands.proofs.Reader.{reads-report}
 
 -- a frame is near itself
@@ -38,43 +37,39 @@ near-self r sent good =
     }
 
 -- and so is one followed by anything
-near-frame : (r : Radio) → Sound r → (report sent more : List ℕ) → OneOf (frames r report) sent → NearOne r (sent ++ more) report 0
-near-frame r S report sent more m =
-    record {
-      frame = sent;
-      member = m;
-      near = near-same r sent (sent ++ more) sent 0 (omega (arith, length-append sent more)) (take-length sent ∙ sym (take-append-seam sent more))
-          (near-self r sent (member-good r S report sent m));
-    }
+near-more : (r : Radio) (sent more : List ℕ) → bad sent ≡ false → Near r (sent ++ more) sent 0
+near-more r sent more good =
+    near-same r sent (sent ++ more) sent 0 (omega (arith, length-append sent more)) (take-length sent ∙ sym (take-append-seam sent more))
+    (near-self r sent good)
 
 -- With room, each of a report's frames followed by anything is answered with that report and
 -- count 0.
 pub demand-2 : (r : Radio) → Sound r → (room : ℕ) (report sent more : List ℕ) → Report report → OneOf (frames r report) sent → length report ≤ room
     → Answers r room (sent ++ more) report 0
-demand-2 r S room report sent more p m h = demand-3 r S room (sent ++ more) report 0 h .1 (p, near-frame r S report sent more m)
+demand-2 r S room report sent more p m h =
+    demand-3 r S room (sent ++ more) report 0 h .1 (p, record { frame = sent; member = m; near = near-more r sent more (member-good r S report sent m) })
 
--- Whatever its reserved bit, that is.
-pub either-bit : (r : Radio) → Sound r → (room bit : ℕ) → bit ≤ 1 → (report more : List ℕ) → Report report → length report ≤ room
-    → Answers r room (frameWith r bit report ++ more) report 0
-either-bit r S room bit l report more p h = demand-2 r S room report (frameWith r bit report) more p (one-of r report bit l) h
+-- And so of the reader, whatever form the frame was sent in: with that form's polarity.
+pub reads-frames : (mode : ℕ) → known mode ≡ true → (report : List ℕ) → Report report → (form : Form) → OneOf (forms (radioOf mode)) form
+    → (more buffer : List ℕ) → length report ≤ length buffer
+    → readOf mode (frameWith (radioOf mode) form report ++ more) buffer ≡ success mode buffer report 0 (apartIn mode) (form .polarity)
+reads-frames mode k report p form m more buffer l =
+    let r = radioOf mode in
+    let sent = frameWith r form report in
+    let near = near-more r sent more (frame-good r (sound mode) form report) in
+    reads-report mode k (sent ++ more) buffer report 0 l .1 (p, record { frame = sent; member = one-of r report form m; near = near })
+    ∙ ap₂ (success mode buffer report 0)
+    (written-gap r (sound mode) report sent (form, m, refl) (apartIn mode) (spaced mode) more)
+    (ap (λ (f : Form). f .polarity) (near-form r (sound mode) (sent ++ more) report 0 p form m near))
 
--- And so of the reader.
-pub reads-frames : (mode : ℕ) → known mode ≡ true → (report sent more buffer : List ℕ) → Report report → OneOf (frames (radioOf mode) report) sent
-    → length report ≤ length buffer → readOf mode (sent ++ more) buffer ≡ success mode buffer report 0 (apartIn mode)
-reads-frames mode k report sent more buffer p m l =
-    reads-report mode k (sent ++ more) buffer report 0 l .1 (p, near-frame (radioOf mode) (sound mode) report sent more m)
-    ∙ ap (success mode buffer report 0)
-    (written-gap (radioOf mode) (sound mode) report sent (bit-of (radioOf mode) report sent m) (apartIn mode) (spaced mode) more)
-
--- The frames of a report are not the same one: chips that are the one have another bit than the
--- other's.
-pub two-frames : (r : Radio) → Sound r → (report : List ℕ) → Report report → frameWith r 0 report ≡ frameWith r 1 report → ⊥
-two-frames r S report p e =
-    let f = frameWith r 0 report in
-    let n = near-self r f (frame-good r S 0 report) in
-    let bit : (b : ℕ) → b ≤ 1 → Near r f (frameWith r b report) 0 → bitIn r (whole r f) ≡ b =
-    λ b l m. bit-read r S (whole r f) b l report p 0 (near-stands r S f b report 0 m) in
-    omega (arith, bit 0 (omega arith) n, bit 1 (omega arith) (subst (λ (g : List ℕ). Near r f g 0) e n))
+-- Frames of a report that were sent in two ways are not the same one: chips that are the one have
+-- its bit and its polarity.
+pub two-frames : (r : Radio) → Sound r → (report : List ℕ) → Report report → (f g : Form) → OneOf (forms r) f → OneOf (forms r) g
+    → frameWith r f report ≡ frameWith r g report → f ≡ g
+two-frames r S report p f g k l e =
+    let n = near-self r (frameWith r f report) (frame-good r S f report) in
+    sym (near-form r S (frameWith r f report) report 0 p f k n)
+    ∙ near-form r S (frameWith r f report) report 0 p g l (subst (λ (h : List ℕ). Near r (frameWith r f report) h 0) e n)
 
 -- what the writer leaves in a buffer that the frame fits: the frame, then the later bytes
 pub written-frame : (mode : ℕ) → known mode ≡ true → (report chips : List ℕ) → length report ≤ 127 → length (frame (radioOf mode) report) ≤ length chips
@@ -86,8 +81,8 @@ written-frame mode k report chips l h =
 -- With room for both, what the writer wrote the reader reads.
 pub read-back : (mode : ℕ) → known mode ≡ true → (report chips buffer : List ℕ) → Report report → length (frame (radioOf mode) report) ≤ length chips
     → length report ≤ length buffer
-    → readOf mode (written mode report chips .buffer) buffer ≡ success mode buffer report 0 (apartIn mode)
+    → readOf mode (written mode report chips .buffer) buffer ≡ success mode buffer report 0 (apartIn mode) 0
 read-back mode k report chips buffer p h l =
     let f = frame (radioOf mode) report in
     ap (λ (xs : List ℕ). readOf mode xs buffer) (written-frame mode k report chips (p .short) h)
-    ∙ reads-frames mode k report f (drop (length f) chips) buffer p (inl refl) l
+    ∙ reads-frames mode k report p plain (in-forms (radioOf mode) plain (plain-proper (radioOf mode))) (drop (length f) chips) buffer l

@@ -6,16 +6,17 @@ use mathlib.Core.Path.{_≡_, refl, sym, ap, _∙_}
 use mathlib.Core.Bool.{true, false, not}
 use mathlib.Core.List.{List}
 use mathlib.Core.Logic.{_⊎_, inl, inr, _↔_}
-use Prim.Native.Nat.{ℕ, _+_, _*_, _≤_}
+use Prim.Native.Nat.{ℕ, _+_, _*_, _%_, _≤_}
 use native.Mathlib.Omega.{arith}
 use lib.Dec.{eqb, ltb}
 use lib.ListN.{length, take, replicate, length-replicate}
 use borrow.Author.Tests.{eqb-false, ne-eqb, ltb-true, ltb-false, leb-true, le-leb, not-true}
 use Rattle.codes.specs.Numbers.{DONE, RUNOUT, ENDED, NOTENDED, MORE, FORGED}
+use Rattle.codes.specs.Chips.{pick}
 use Rattle.codes.specs.Radio.{known, radioOf}
 use Rattle.codes.specs.Symbol.{symbolOf}
 use Rattle.codes.proofs.Tests.{by-test, not-both}
-use Rattle.frame.specs.Frame.{perOctet, symbols}
+use Rattle.frame.specs.Frame.{perOctet, plain, symbols}
 use Rattle.frame.proofs.Count.{symbols-long}
 use Rattle.order.specs.Order.{Answer, done}
 use Rattle.reader.specs.Read.{told, left, answered}
@@ -57,7 +58,7 @@ called-passed c f n (taking buffer) =
 module _ (c : Receiver) (g : (c .ended ≡ MORE) ⊎ (c .ended ≡ DONE)) (misfit : ℕ → Type 0) where
   -- the symbols of the frame of a report of the length held
   frame-total : (report : List ℕ) → length report ≡ c .length → length (symbols (radioOf (c .mode)) report) ≡ total c
-  frame-total report l = symbols-long (radioOf (c .mode)) 0 report ∙ ap (λ (n : ℕ). (6 + n) * perOctet (radioOf (c .mode))) l
+  frame-total report l = symbols-long (radioOf (c .mode)) plain report ∙ ap (λ (n : ℕ). (6 + n) * perOctet (radioOf (c .mode))) l
 
   -- where the other tests pass, the test of the number of symbols decides
   module _ (decides : forged c ≡ number-of-symbols c (perOctet (radioOf (c .mode))) → (forged c ≡ true) ↔ misfit (total c)) where
@@ -160,9 +161,11 @@ module _ (c : Receiver) where
         let m : c .ended ≡ MORE → ⊥ = λ e. omega (arith, d, e) in
         (λ part. sym (push-ended c part f m), sym (finish-ended c f m))
 
-    -- And take gives what it holds, count and gap as they are, where there is room for its octets.
+    -- And take gives what it holds, where there is room for its octets: count and gap as they are,
+    -- the polarity modulo 2 in a radio with a chain, else 0.
     pub well-taken : (FaultyWell c → ⊥) → length (c .octets) ≡ 127 → (buffer : List ℕ) → c .length ≤ length buffer
-        → takeOf c buffer ≡ answered (done (c .taken) (take (c .length) (c .octets)) (c .count) (c .gap)) buffer
+        → takeOf c buffer ≡ answered
+        (done (c .taken) (take (c .length) (c .octets)) (c .count) (c .gap) (pick (radioOf (c .mode) .chained) (c .polarity % 2) 0)) buffer
     well-taken n l buffer h =
         ap (λ (a : Answer). answered a buffer) (sym (takes-done c (length buffer) (passed c (FaultyWell c) (well-tested c d) n) d l h))
 

@@ -77,11 +77,11 @@ module _ (r : Radio) (S : Sound r) (bit : ℕ) (low : bit ≤ 1) (report : List 
   unfolding octetsFrom
   report-in = rw length-in (ap (λ (xs : List ℕ). drop 6 xs) again)
 
-  all-long : length all ≡ (6 + length report) * perOctet r
+  pub all-long : length all ≡ (6 + length report) * perOctet r
   all-long = raws-long r (octetsWith bit report) ∙ ap (λ (n : ℕ). n * perOctet r) (omega arith)
 
   -- the preamble is 0
-  preamble-in : (s : ℕ) → s < 4 * perOctet r → getD all s 0 ≡ 0
+  pub preamble-in : (s : ℕ) → s < 4 * perOctet r → getD all s 0 ≡ 0
   preamble-in s h =
       let e : take (4 * perOctet r) all ≡ raws r (0 ∷ 0 ∷ 0 ∷ 0 ∷ []) =
       before r (0 ∷ 0 ∷ 0 ∷ 0 ∷ []) (startOctet ∷ (length report + 128 * bit) ∷ report) (4 * perOctet r) refl in

@@ -2,28 +2,24 @@
 -- of chips 0 and 1. Nearness to a frame depends on no chip after it, and the distance of a whole
 -- prefix from it is the sum over the windows. For any sound radio. Assumes nothing.
 use mathlib.Core.Path.{_≡_, refl, sym, ap, _∙_}
-use mathlib.Core.Bool.{true, false}
-use mathlib.Core.Logic.{inl, inr}
-use mathlib.Core.List.{List, [], _∷_, map}
-use Prim.Native.Nat.{ℕ, zero, suc, _*_, _^_, _≤_, _<_}
+use mathlib.Core.Bool.{false}
+use mathlib.Core.List.{List, [], _∷_}
+use Prim.Native.Nat.{ℕ, suc, _*_, _^_, _≤_, _<_}
 use native.Mathlib.Nat.{mul-le-mul-right, le-of-mul-le-mul-right, le-add-right}
 use native.Mathlib.Omega.{arith}
 use lib.ListN.{length, getD, take}
 use lib.Seq.{take-all}
-use lib.Dec.{eqb, leb}
-use borrow.Author.Tests.{eqb-true, eq-eqb, leb-true}
-use Rattle.codes.specs.Chips.{distance, bad, among}
+use Rattle.codes.specs.Chips.{distance, bad}
 use Rattle.codes.specs.Radio.{Radio, Sound, word}
-use Rattle.codes.proofs.Tests.{by-test, not-both}
 use Rattle.codes.proofs.Chips.{bad-append}
-use Rattle.frame.specs.Frame.{perOctet, symbols, symbolsWith, chipsOf, frameWith}
+use Rattle.frame.specs.Frame.{perOctet, Form, plain, symbols, symbolsWith, chipsOf, frameWith}
 use Rattle.frame.proofs.Count.{symbols-below, symbols-long, symbols-same, frame-size, frame-long}
 use Rattle.frame.proofs.Below.{Below, below-at}
 use Rattle.order.specs.Order.{window}
-use Rattle.demands.specs.Words.{reservedBits, frames, OneOf, Near, differences}
-use Rattle.demands.proofs.Among.{among-pass}
+use Rattle.demands.specs.Words.{frames, OneOf, Near, differences}
 use Rattle.order.proofs.Raw.{size-pos, per-positive}
 use Rattle.demands.proofs.Fronts.{window-same, front-distance, word-window}
+use Rattle.demands.proofs.Forms.{Sent, sent-as}
 
 module _ (r : Radio) (S : Sound r) where
   chips-good : (vs : List ℕ) → Below (2 ^ r .bits) vs → bad (chipsOf r vs) ≡ false
@@ -33,41 +29,41 @@ module _ (r : Radio) (S : Sound r) where
 
   -- a frame has symbols
   pub some-symbols : (report : List ℕ) → 0 < length (symbols r report)
-  some-symbols report = omega (arith, symbols-long r 0 report, per-positive r S, mul-le-mul-right (perOctet r) (le-add-right 6 (length report)))
+  some-symbols report = omega (arith, symbols-long r plain report, per-positive r S, mul-le-mul-right (perOctet r) (le-add-right 6 (length report)))
 
-  module _ (bit : ℕ) (report : List ℕ) where
+  module _ (form : Form) (report : List ℕ) where
     abbrev vs : List ℕ
-    vs = symbolsWith r bit report
+    vs = symbolsWith r form report
 
     -- each symbol of a frame has a word
     pub symbol-known : (s : ℕ) → s < length vs → getD vs s 0 < length (r .words)
-    symbol-known s h = rw (S .many) (below-at (2 ^ r .bits) vs (symbols-below r S bit report) s h)
+    symbol-known s h = rw (S .many) (below-at (2 ^ r .bits) vs (symbols-below r S form report) s h)
 
     -- the windows of a frame's symbols end in the frame
-    pub window-in : (s : ℕ) → s < length vs → suc s * r .size ≤ length (frameWith r bit report)
-    window-in s h = rw (frame-size r S bit report) (mul-le-mul-right (r .size) h)
+    pub window-in : (s : ℕ) → s < length vs → suc s * r .size ≤ length (frameWith r form report)
+    window-in s h = rw (frame-size r S form report) (mul-le-mul-right (r .size) h)
 
     -- and no others do
-    pub window-of : (s : ℕ) → suc s * r .size ≤ length (frameWith r bit report) → s < length vs
-    window-of s h = le-of-mul-le-mul-right {k = r .size} (rw (frame-size r S bit report) at h) (size-pos r S)
+    pub window-of : (s : ℕ) → suc s * r .size ≤ length (frameWith r form report) → s < length vs
+    window-of s h = le-of-mul-le-mul-right {k = r .size} (rw (frame-size r S form report) at h) (size-pos r S)
 
     -- window s of a frame is the word of its symbol s
-    pub frame-window : (s : ℕ) → s < length vs → window r (frameWith r bit report) s ≡ word r (getD vs s 0)
+    pub frame-window : (s : ℕ) → s < length vs → window r (frameWith r form report) s ≡ word r (getD vs s 0)
     unfolding frameWith
-    frame-window s h = word-window r S vs (symbols-below r S bit report) s h
+    frame-window s h = word-window r S vs (symbols-below r S form report) s h
 
     -- a frame is of chips 0 and 1
-    pub frame-good : bad (frameWith r bit report) ≡ false
+    pub frame-good : bad (frameWith r form report) ≡ false
     unfolding frameWith
-    frame-good = chips-good vs (symbols-below r S bit report)
+    frame-good = chips-good vs (symbols-below r S form report)
 
     -- The distance of a whole prefix from a frame is the sum of the distances of the windows of
     -- its symbols.
-    pub sum-of-windows : (chips : List ℕ) → length (frameWith r bit report) ≤ length chips
-        → distance (take (length (frameWith r bit report)) chips) (frameWith r bit report) ≡ differences r chips (frameWith r bit report) (length vs)
+    pub sum-of-windows : (chips : List ℕ) → length (frameWith r form report) ≤ length chips
+        → distance (take (length (frameWith r form report)) chips) (frameWith r form report) ≡ differences r chips (frameWith r form report) (length vs)
     sum-of-windows chips h =
-        let f = frameWith r bit report in
-        let e = frame-size r S bit report in
+        let f = frameWith r form report in
+        let e = frame-size r S form report in
         let k = length vs * r .size in
         ap (λ (n : ℕ). distance (take n chips) f) e
         ∙ ap (distance (take k chips)) (sym (take-all k f (omega arith)))
@@ -87,52 +83,23 @@ near-same r chips others frame count h e n =
 
 -- ---- the frames of a report
 
--- what is made of each of some numbers
-module _ (f : ℕ → List ℕ) where
-  made-of : (ns : List ℕ) (n : ℕ) → among n ns ≡ true → OneOf (map f ns) (f n)
-  made-of [] n t = not-both false t refl
-  made-of (x ∷ ns) n t = by-test (eqb n x) (λ e. inl (ap f (eqb-true n x e))) (λ e. inr (made-of ns n (rw e at t)))
-
-  of-made : (ns : List ℕ) (y : List ℕ) → OneOf (map f ns) y → (n : ℕ) × (among n ns ≡ true) × (y ≡ f n)
-  of-made [] y m = absurd m
-  of-made (x ∷ ns) y (inl e) = (x, rw (eq-eqb x x refl), e)
-  of-made (x ∷ ns) y (inr m) = let o = of-made ns y m in
-      (o .0, by-test (eqb (o .0) x) (λ t. rw t) (λ t. rw t (o .1)), o .2)
-
--- they are those with the reserved bit 0 or 1
-module _ (r : Radio) (report : List ℕ) where
-  pub one-of : (bit : ℕ) → bit ≤ 1 → OneOf (frames r report) (frameWith r bit report)
-  one-of bit h = made-of (λ (b : ℕ). frameWith r b report) reservedBits bit (low bit h)
-    where
-      low : (b : ℕ) → b ≤ 1 → among b reservedBits ≡ true
-      low zero h = refl
-      low (suc zero) h = refl
-      low (suc (suc b)) h = absurd (omega arith)
-
-  abbrev pub Bit : List ℕ → Type 0
-  Bit frame = (bit : ℕ) × (bit ≤ 1) × (frame ≡ frameWith r bit report)
-
-  pub bit-of : (frame : List ℕ) → OneOf (frames r report) frame → Bit frame
-  bit-of frame m = let o = of-made (λ (b : ℕ). frameWith r b report) reservedBits frame m in
-      (o .0, leb-true _ _ (among-pass (λ b. leb b 1) reservedBits refl (o .0) (o .1)), o .2)
-
 -- each is of chips 0 and 1, and as long as the one that is written
 module _ (r : Radio) (S : Sound r) (report frame : List ℕ) (m : OneOf (frames r report) frame) where
   pub member-good : bad frame ≡ false
-  member-good = go (bit-of r report frame m)
+  member-good = go (sent-as r report frame m)
     where
-      go : Bit r report frame → bad frame ≡ false
-      go (bit, h, e) = rw e (frame-good r S bit report)
+      go : Sent r report frame → bad frame ≡ false
+      go (form, h, e) = rw e (frame-good r S form report)
 
   -- its symbols' windows end in it
   pub member-window : (j : ℕ) → j < length (symbols r report) → suc j * r .size ≤ length frame
-  member-window = go (bit-of r report frame m)
+  member-window = go (sent-as r report frame m)
     where
-      go : Bit r report frame → (j : ℕ) → j < length (symbols r report) → suc j * r .size ≤ length frame
-      go (bit, h, e) j l = rw e (window-in r S bit report j (rw (symbols-same r bit report) l))
+      go : Sent r report frame → (j : ℕ) → j < length (symbols r report) → suc j * r .size ≤ length frame
+      go (form, h, e) j l = rw e (window-in r S form report j (rw (symbols-same r form report) l))
 
-  pub member-long : length frame ≡ length (frameWith r 0 report)
-  member-long = go (bit-of r report frame m)
+  pub member-long : length frame ≡ length (frameWith r plain report)
+  member-long = go (sent-as r report frame m)
     where
-      go : Bit r report frame → length frame ≡ length (frameWith r 0 report)
-      go (bit, h, e) = ap length e ∙ frame-long r S bit report ∙ sym (frame-long r S 0 report)
+      go : Sent r report frame → length frame ≡ length (frameWith r plain report)
+      go (form, h, e) = ap length e ∙ frame-long r S form report ∙ sym (frame-long r S plain report)

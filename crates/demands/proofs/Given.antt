@@ -5,26 +5,27 @@ use mathlib.Core.Bool.{true, false, not}
 use mathlib.Core.List.{List, [], _∷_}
 use mathlib.Core.Logic.{_⊎_, inl, inr}
 use Prim.Native.Nat.{ℕ, _+_, _*_, _≤_}
-use lib.ListN.{length, take}
+use native.Mathlib.Omega.{arith}
+use lib.ListN.{length}
 use lib.Dec.{eqb, ltb}
-use borrow.Author.Tests.{eqb-true, eqb-false, not-false}
+use borrow.Author.Tests.{eq-eqb, eqb-true, eqb-false, not-false}
 use Rattle.codes.specs.Numbers.{DONE, BADMODE, NOROOM, RUNOUT, NOCHIP, LOST, PREAMBLE, BADSTART, ENDED, BADPART, NOTENDED, MORE, FORGED}
 use Rattle.codes.specs.Chips.{among}
-use Rattle.codes.specs.Radio.{Radio, known, radioOf}
+use Rattle.codes.specs.Radio.{Radio, known, radioOf, bpsk}
 use Rattle.codes.specs.Symbol.{symbolOf}
 use Rattle.codes.specs.declared.Symbol.{Symbol}
 use Rattle.codes.proofs.Tests.{by-pick, not-both}
 use Rattle.codes.proofs.Unique.{symbol-numbers}
 use Rattle.frame.specs.Frame.{startOctet, perOctet}
 use Rattle.order.specs.declared.Hand.{Hand}
-use Rattle.order.specs.Order.{Answer, refused, done, both, ends, rules}
+use Rattle.order.specs.Order.{Answer, refused, both, ends, rules}
 use Rattle.reader.specs.Read.{told}
-use Rattle.order.specs.Taking.{stopped, rawFrom, shifted, lengthAfter, moved, advanced, followed}
-use Rattle.order.proofs.Rules.{roomy, length-few}
+use Rattle.order.specs.Taking.{stopped, shifted, lengthAfter, moved, rawNext, polarityNext, advanced, followed}
+use Rattle.order.proofs.Rules.{roomy, length-few, preamble-rules}
 use Rattle.order.proofs.Steps.{followed-stops, kept-stops}
 use Rattle.receiver.specs.declared.Receiver.{Receiver}
 use Rattle.receiver.specs.declared.Step.{Step}
-use Rattle.receiver.specs.Record.{step, startOf, isOpen, endedWell, forged, handOf, held, tookSymbol, pushOf, endedWith, finishOf, roomFor, takes, takeOf}
+use Rattle.receiver.specs.Record.{step, startOf, isOpen, endedWell, forged, handOf, held, tookSymbol, pushOf, endedWith, finishOf, roomFor, holding, takes, takeOf}
 use Rattle.receiver.proofs.Ways.{passed-known}
 use Rattle.demands.proofs.Among.{among-pass}
 use Rattle.demands.proofs.Demand1.{leaves}
@@ -51,24 +52,24 @@ rules-given per s raw start n q =
 -- the ways of a symbol taken: moved or stopped by the rules
 module _ (r : Radio) (h : Hand) (x : Symbol) where
   abbrev octet : ℕ
-  octet = shifted r (h .octet) (rawFrom r (h .last) (x .value))
+  octet = shifted r (h .octet) (rawNext r h x)
 
   abbrev n : ℕ
   n = lengthAfter (perOctet r) (h .taken) (h .length) octet
 
   abbrev found : ℕ
-  found = rules (perOctet r) 127 (h .taken) (rawFrom r (h .last) (x .value)) octet n
+  found = rules (perOctet r) 127 (h .taken) (rawNext r h x) octet n
 
-  advanced-ways : (P : Hand → Type 0) → ((found ≡ MORE) ⊎ (found ≡ DONE) → P (moved h found n x octet)) → P (stopped found h) → P (advanced r h x)
+  advanced-ways : (P : Hand → Type 0) → ((found ≡ MORE) ⊎ (found ≡ DONE) → P (moved h found n x octet (polarityNext r h x))) → P (stopped found h) → P (advanced r h x)
   unfolding advanced
   advanced-ways P a b =
-      by-pick P (eqb found MORE) (moved h found n x octet) _ (λ t. a (inl (eqb-true found MORE t)))
-      (λ _. by-pick P (eqb found DONE) (moved h found n x octet) (stopped found h) (λ t. a (inr (eqb-true found DONE t))) (λ _. b))
+      by-pick P (eqb found MORE) (moved h found n x octet (polarityNext r h x)) _ (λ t. a (inl (eqb-true found MORE t)))
+      (λ _. by-pick P (eqb found DONE) (moved h found n x octet (polarityNext r h x)) (stopped found h) (λ t. a (inr (eqb-true found DONE t))) (λ _. b))
 
   advanced-given : among (advanced r h x .number) ofSymbol ≡ true
   advanced-given =
       let given =
-      rules-given (perOctet r) (h .taken) (rawFrom r (h .last) (x .value)) octet n (length-few (perOctet r) (h .taken) (h .length) octet) in
+      rules-given (perOctet r) (h .taken) (rawNext r h x) octet n (length-few (perOctet r) (h .taken) (h .length) octet) in
       advanced-ways (λ g. among (g .number) ofSymbol ≡ true) (λ _. given) given
 
 followed-given : (mode : ℕ) → known mode ≡ true → (h : Hand) (w : List ℕ) → among (followed mode h (symbolOf (radioOf mode) w) .number) ofSymbol ≡ true
@@ -106,6 +107,27 @@ push-numbers c part =
     given : List ℕ
     given = DONE ∷ NOCHIP ∷ LOST ∷ PREAMBLE ∷ BADSTART ∷ ENDED ∷ BADPART ∷ MORE ∷ FORGED ∷ []
 
+-- the first symbol of mode 0 settles the polarity, and its raw bit is 0
+followed-first : (h : Hand) → h .taken ≡ 0 → (w : List ℕ) → followed 0 h (symbolOf bpsk w) .number ≡ PREAMBLE → ⊥
+unfolding followed
+followed-first h t w =
+    let x = symbolOf bpsk w in
+    let nought : rawNext bpsk h x ≡ 0 = rw t (omega arith) in
+    let more : found bpsk h x ≡ MORE =
+    preamble-rules 8 (h .taken) (omega (arith, t)) (rawNext bpsk h x) (octet bpsk h x) (n bpsk h x) ∙ rw (eq-eqb (rawNext bpsk h x) 0 nought) in
+    by-pick P (eqb (x .number) DONE) (advanced bpsk h x) (stopped (x .number) h)
+    (λ _. advanced-ways bpsk h x P (λ _ e. omega (arith, more, e)) (λ e. omega (arith, more, e)))
+    (λ _. symbol-numbers bpsk w (λ y. y ≡ PREAMBLE → ⊥) (λ e. omega (arith, e)) (λ e. omega (arith, e)) (λ e. omega (arith, e)))
+  where
+    P : Hand → Type 0
+    P g = g .number ≡ PREAMBLE → ⊥
+
+-- So no part gives 7 to a mode 0 record that has taken no symbol, whatever else it holds.
+pub push-first : (c : Receiver) → c .mode ≡ 0 → c .taken ≡ 0 → (part : List ℕ) → pushOf c part .number ≡ PREAMBLE → ⊥
+push-first c m t part =
+    push-ways c part (λ (s : Step). s .number ≡ PREAMBLE → ⊥) (λ _ e. omega (arith, e)) (λ e. omega (arith, e)) (λ e. omega (arith, e))
+    (λ _ _. rw m (followed-first (handOf c) t part))
+
 -- 34, 10 and 11 give the record back as it was. Any other number is the one that the record then
 -- holds: 13 while it is open, or what ended it.
 pub push-tells : (c : Receiver) (part : List ℕ)
@@ -134,7 +156,7 @@ finish-numbers c = finish-ways c (λ (s : Step). among (s .number) (RUNOUT ∷ E
 
 -- what is true of take's ways
 pub takes-ways : (c : Receiver) (room : ℕ) (P : Answer → Type 0) → (forged c ≡ true → P (refused FORGED 0)) → P (refused NOTENDED 0)
-    → P (refused NOROOM (c .taken)) → P (done (c .taken) (take (c .length) (c .octets)) (c .count) (c .gap))
+    → P (refused NOROOM (c .taken)) → P (holding c)
     → ((c .ended ≡ MORE → ⊥) → (c .ended ≡ DONE → ⊥) → P (refused (c .ended) (c .taken))) → P (takes c room)
 unfolding takes roomFor
 takes-ways c room P f o n d e =
@@ -155,9 +177,10 @@ take-numbers c buffer = takes-ways c (length buffer) P (λ _. inl refl) (inl ref
 
 -- ---- what a refusal leaves
 
--- A take that isn't done: n, count and gap 0, report buffer unchanged.
+-- A take that isn't done: n, count, gap and polarity 0, report buffer unchanged.
 pub take-refused : (c : Receiver) (buffer : List ℕ) → (takeOf c buffer .answer .number ≡ DONE → ⊥)
-    → (takeOf c buffer .answer .n ≡ 0) × (takeOf c buffer .answer .count ≡ 0) × (takeOf c buffer .answer .gap ≡ 0) × (takeOf c buffer .buffer ≡ buffer)
+    → (takeOf c buffer .answer .n ≡ 0) × (takeOf c buffer .answer .count ≡ 0) × (takeOf c buffer .answer .gap ≡ 0)
+    × (takeOf c buffer .answer .polarity ≡ 0) × (takeOf c buffer .buffer ≡ buffer)
 take-refused c buffer = leaves (takes c (length buffer)) buffer
 
 -- A refusal of push's symbol leaves the record as it was, but for the number that ends it.

@@ -10,13 +10,13 @@ use lib.ListN.{length, take}
 use lib.Seq.{length-take-le}
 use Rattle.codes.specs.Numbers.{DONE, NOROOM, MORE}
 use Rattle.codes.specs.Radio.{known, radioOf}
-use Rattle.frame.specs.Frame.{perOctet, symbols}
+use Rattle.frame.specs.Frame.{perOctet, plain, symbols}
 use Rattle.frame.proofs.Count.{symbols-long}
 use Rattle.order.specs.Order.{Answer, refused, done}
 use Rattle.reader.specs.Read.{told, left, answered}
 use Rattle.order.specs.Taking.{Complete}
 use Rattle.receiver.specs.declared.Receiver.{Receiver}
-use Rattle.receiver.specs.Record.{startOf, forged, handOf, takeOf}
+use Rattle.receiver.specs.Record.{startOf, forged, handOf, toldPolarity, takeOf}
 use Rattle.receiver.proofs.Ways.{takes-open, takes-refused, takes-short, takes-done}
 use Rattle.demands.specs.Calls.{Call, after, Holds}
 use Rattle.demands.proofs.Made.{Honest, wanting, complete, ended, Made, not-ending, passes, made}
@@ -34,26 +34,26 @@ module _ (mode : ℕ) (c : Receiver) (M : Made mode c) where
         F .total
         ∙ ap (λ (m : ℕ). (6 + c .length) * perOctet (radioOf m)) (M .own)
         ∙ ap (λ (l : ℕ). (6 + l) * perOctet (radioOf mode)) (sym report-long)
-        ∙ sym (symbols-long (radioOf mode) 0 report)
+        ∙ sym (symbols-long (radioOf mode) plain report)
 
     passed : forged c ≡ false
     passed = passes c (complete k d F)
 
-    holds : Holds mode c report (c .count) (c .gap)
+    holds : Holds mode c report (c .count) (c .gap) (toldPolarity c)
     unfolding told left
     holds =
         record {
           given = λ buffer h.
               ap (λ (a : Answer). answered a buffer)
-              (sym (takes-done c (length buffer) passed d (M .long) (omega (arith, report-long))) ∙ ap (λ (s : ℕ). done s report (c .count) (c .gap)) place);
+              (sym (takes-done c (length buffer) passed d (M .long) (omega (arith, report-long))) ∙ ap (λ (s : ℕ). done s report (c .count) (c .gap) (toldPolarity c)) place);
           lacking = λ buffer l.
               ap (λ (a : Answer). answered a buffer)
               (sym (takes-short c (length buffer) passed d (M .long) (omega (arith, report-long))) ∙ ap (refused NOROOM) place);
         }
 
-  held : Honest c → c .ended ≡ DONE → (report : List ℕ) × (count gap : ℕ) × Holds mode c report count gap
+  held : Honest c → c .ended ≡ DONE → (report : List ℕ) × (count gap polarity : ℕ) × Holds mode c report count gap polarity
   held (wanting k before C O) d = absurd (omega (arith, O .number, d))
-  held (complete k d F) _ = (_, _, _, holds k d F)
+  held (complete k d F) _ = (_, _, _, _, holds k d F)
   held (ended t) d = absurd (not-ending (c .ended) DONE t refl d)
 
   -- no other record tells 3
@@ -72,7 +72,7 @@ module _ (mode : ℕ) (xs : List Call) where
   c = after (startOf mode .receiver) xs
 
   -- A record that calls made and that ended well holds a report.
-  pub take-holds : c .ended ≡ DONE → (report : List ℕ) × (count gap : ℕ) × Holds mode c report count gap
+  pub take-holds : c .ended ≡ DONE → (report : List ℕ) × (count gap polarity : ℕ) × Holds mode c report count gap polarity
   take-holds = held mode c (made mode xs) (made mode xs .honest)
 
   -- And take's 3 comes of no other.

@@ -24,10 +24,11 @@ use Rattle.order.specs.Order.{window}
 use Rattle.demands.specs.Words.{windowGap, frameGap, apartIn, Near}
 use Rattle.demands.proofs.Repair.{distance-self, between}
 use Rattle.demands.proofs.Fronts.{window-long, window-same}
-use Rattle.demands.proofs.Frames.{some-symbols, symbol-known, window-in, frame-window, Bit}
+use Rattle.demands.proofs.Frames.{some-symbols, symbol-known, window-in, frame-window}
+use Rattle.demands.proofs.Forms.{Sent}
 use Rattle.demands.proofs.Gaps.{gap-le, gap-above, gap-rises}
 
-module _ (r : Radio) (S : Sound r) (report frame : List ℕ) (B : Bit r report frame) where
+module _ (r : Radio) (S : Sound r) (report frame : List ℕ) (B : Sent r report frame) where
   abbrev vs : List ℕ
   vs = symbolsWith r (B .0) report
 

@@ -1,8 +1,8 @@
 -- The demands, and the laws that they stand on, leaves first. To be read are Demand1, Demand2,
 -- Demand3 and, from it, HowClose, PutRight, NoFlat, OneAnswer and Reader; of matching one symbol
 -- Matched; of the stepping receiver Stepped, Stray, Forged, Holds and Given; of the checked profile
--- Checked and Misread; of the reserved bit TurnsOver and Withdrawn. Each opens with what it says in
--- plain words.
+-- Checked and Misread; of the reserved bit TurnsOver and Withdrawn; of the polarity TurnsOver and
+-- Polarity. Each opens with what it says in plain words.
 pub mod Among
 pub mod Digits
 pub mod Back
@@ -11,6 +11,7 @@ pub mod Path
 pub mod Framed
 pub mod Found
 pub mod Fronts
+pub mod Forms
 pub mod Frames
 pub mod Stands
 pub mod Gaps
@@ -39,3 +40,5 @@ pub mod Withdrawn
 pub mod Spread
 pub mod Misread
 pub mod TurnsOver
+pub mod Polarity
+pub mod EitherWay

@@ -1,6 +1,5 @@
--- A frame of a report with its FCS, the one that the checked writer wrote or that with the reserved
--- bit set, of which one symbol of the report or of its FCS is read as another value, is refused
--- with 15. What is then read is the frame of another report, as long as the one sent: the raw
+-- A frame of a report with its FCS, the one that the checked writer wrote or any other of its frames,
+-- of which one symbol of the report or of its FCS is read as another value, is refused with 15. What is then read is the frame of another report, as long as the one sent: the raw
 -- symbols differ at that symbol and, in a chained radio, at the next, so the bits differ within one
 -- run of 16, and the FCS of the other is wrong. For any sound radio. Assumes nothing.
 use mathlib.Core.Path.{_≡_, refl, sym, ap, ap₂, _∙_}
@@ -18,7 +17,7 @@ use Rattle.codes.specs.Chips.{distance}
 use Rattle.codes.specs.Symbol.{symbolOf}
 use Rattle.codes.proofs.Facts.{sound}
 use Rattle.codes.proofs.Unique.{Reads, some-words, of-symbol, read-as}
-use Rattle.frame.specs.Frame.{startOctet, octetsWith, perOctet, raws, encode, symbols, symbolsWith}
+use Rattle.frame.specs.Frame.{startOctet, octetsWith, perOctet, raws, encode, Form, symbols, symbolsWith}
 use Rattle.frame.proofs.Below.{Below, below-at, below-set}
 use Rattle.frame.proofs.Count.{raws-below, symbols-long, symbols-same, symbols-below}
 use Rattle.order.specs.Received.{decode, octetAt, octetsFrom}
@@ -30,12 +29,13 @@ use Rattle.fcs.proofs.Remainder.{with-long}
 use Rattle.checked.specs.Profile.{checkOf, readCheckedOf}
 use Rattle.checked.proofs.Caught.{run-caught}
 use Rattle.fcs.proofs.Bits.{bits-append, bits-long}
-use Rattle.demands.specs.Words.{Report}
+use Rattle.demands.specs.Words.{Report, forms, OneOf}
 use Rattle.demands.specs.Calls.{tells}
 use Rattle.demands.specs.Profile.{ReadAs}
 use Rattle.demands.proofs.Back.{decode-take, decode-encode, encode-decode}
 use Rattle.demands.proofs.Octet.{raws-octets, octets-below, octet-take}
 use Rattle.demands.proofs.Framed.{again}
+use Rattle.demands.proofs.Forms.{Proper, proper}
 use Rattle.demands.proofs.Spread.{bitsOf, bits-raws, within-two}
 use Rattle.demands.proofs.Stands.{Stands}
 use Rattle.demands.proofs.Answered.{windows-answer}
@@ -57,33 +57,33 @@ raw-elsewhere r last (u ∷ vs) (suc s) v (suc j) n m = raw-elsewhere r u vs s v
 
 -- One of a report's frames, and its symbols but for one after the length octet, which is
 -- another value.
-module _ (r : Radio) (S : Sound r) (bit : ℕ) (low : bit ≤ 1) (report : List ℕ) (P : Report report)
+module _ (r : Radio) (S : Sound r) (form : Form) (F : Proper r form) (report : List ℕ) (P : Report report)
     (s v : ℕ) (h : 6 * perOctet r ≤ s) (below : v < 2 ^ r .bits) where
   abbrev vs : List ℕ
-  vs = symbolsWith r bit report
+  vs = symbolsWith r form report
 
   abbrev all : List ℕ
-  all = raws r (octetsWith bit report)
+  all = raws r (octetsWith (form .bit) report)
 
   -- the values read, and the raw symbols that they make
   abbrev others : List ℕ
   others = set vs s v
 
   abbrev bs : List ℕ
-  bs = decode r 0 others
+  bs = decode r (form .polarity) others
 
   others-below : Below (2 ^ r .bits) others
-  others-below = below-set (2 ^ r .bits) vs s v (symbols-below r S bit report) below
+  others-below = below-set (2 ^ r .bits) vs s v (symbols-below r S form report) below
 
   bs-below : Below (2 ^ r .bits) bs
-  bs-below = decode-below r S 0 others others-below
+  bs-below = decode-below r S (form .polarity) others others-below
 
-  raw-again : decode r 0 vs ≡ all
+  raw-again : decode r (form .polarity) vs ≡ all
   unfolding symbolsWith
-  raw-again = decode-encode r S 0 all (raws-below r (octetsWith bit report))
+  raw-again = decode-encode r S (form .polarity) all (raws-below r (octetsWith (form .bit) report))
 
   bs-long : length bs ≡ (6 + length report) * perOctet r
-  bs-long = decode-long r 0 others ∙ length-set vs s v ∙ symbols-long r bit report
+  bs-long = decode-long r (form .polarity) others ∙ length-set vs s v ∙ symbols-long r form report
 
   -- the report in them
   abbrev other : List ℕ
@@ -95,17 +95,17 @@ module _ (r : Radio) (S : Sound r) (bit : ℕ) (low : bit ≤ 1) (report : List 
       let j = 6 * perOctet r in
       let q : suc k * perOctet r ≤ j = mul-le-mul-right (perOctet r) l in
       let e : take j bs ≡ take j all =
-      decode-take r 0 j others ∙ ap (decode r 0) (take-set-le j vs s v h) ∙ sym (decode-take r 0 j vs) ∙ ap (take j) raw-again in
+      decode-take r (form .polarity) j others ∙ ap (decode r (form .polarity)) (take-set-le j vs s v h) ∙ sym (decode-take r (form .polarity) j vs) ∙ ap (take j) raw-again in
       sym (octet-take r k j bs q) ∙ ap (octetAt r k) e ∙ octet-take r k j all q
 
   pub other-long : length other ≡ length report
   other-long = octets-long r 6 (length report) bs
 
-  other-octets : octetsFrom r 0 (6 + length report) bs ≡ octetsWith bit other
+  other-octets : octetsFrom r 0 (6 + length report) bs ≡ octetsWith (form .bit) other
   unfolding octetsFrom
   other-octets =
       let e : 6 + length report ≡ suc (suc (suc (suc (suc (suc (length report)))))) = omega arith in
-      let sent = again r S bit low report P in
+      let sent = again r S (form .bit) (F .low) report P in
       rw (
         e,
         front 0 (omega arith) ∙ ap (λ (xs : List ℕ). getD xs 0 0) sent,
@@ -117,19 +117,19 @@ module _ (r : Radio) (S : Sound r) (bit : ℕ) (low : bit ≤ 1) (report : List 
         other-long,
       )
 
-  other-raws : raws r (octetsWith bit other) ≡ bs
+  other-raws : raws r (octetsWith (form .bit) other) ≡ bs
   other-raws = ap (raws r) (sym other-octets) ∙ raws-octets r S (6 + length report) bs bs-below bs-long
 
-  pub other-symbols : symbolsWith r bit other ≡ others
+  pub other-symbols : symbolsWith r form other ≡ others
   unfolding symbolsWith
-  other-symbols = ap (encode r 0) other-raws ∙ encode-decode r S 0 others others-below
+  other-symbols = ap (encode r (form .polarity)) other-raws ∙ encode-decode r S (form .polarity) others others-below
 
   pub other-below : Below 256 other
   other-below = octets-below r S 6 (length report) bs bs-below
 
   -- the raw symbols differ at s and s + 1 at most
-  differ-two : (j : ℕ) → (j ≡ s → ⊥) → (j ≡ suc s → ⊥) → getD (raws r (octetsWith bit report)) j 0 ≡ getD (raws r (octetsWith bit other)) j 0
-  differ-two j n m = rw other-raws (sym (raw-elsewhere r 0 vs s v j n m ∙ rw raw-again))
+  differ-two : (j : ℕ) → (j ≡ s → ⊥) → (j ≡ suc s → ⊥) → getD (raws r (octetsWith (form .bit) report)) j 0 ≡ getD (raws r (octetsWith (form .bit) other)) j 0
+  differ-two j n m = rw other-raws (sym (raw-elsewhere r (form .polarity) vs s v j n m ∙ rw raw-again))
 
   bits-few : r .bits ≤ 8
   bits-few = omega (arith, S .divides, mul-le-mul-right (r .bits) (per-positive r S), one-mul (r .bits))
@@ -138,10 +138,10 @@ module _ (r : Radio) (S : Sound r) (bit : ℕ) (low : bit ≤ 1) (report : List 
   sent-after : 48 ≤ s * r .bits
   sent-after = omega (arith, mul-le-mul-right (r .bits) h, mul-assoc 6 (perOctet r) (r .bits), ap (λ (n : ℕ). 6 * n) (S .divides))
 
-  report-bit : (xs : List ℕ) (i : ℕ) → getD (bitsOf (r .bits) (raws r (octetsWith bit xs))) (48 + i) 0 ≡ getD (bits xs) i 0
+  report-bit : (xs : List ℕ) (i : ℕ) → getD (bitsOf (r .bits) (raws r (octetsWith (form .bit) xs))) (48 + i) 0 ≡ getD (bits xs) i 0
   report-bit xs i =
-      let six : List ℕ = 0 ∷ 0 ∷ 0 ∷ 0 ∷ startOctet ∷ (length xs + 128 * bit) ∷ [] in
-      ap (λ (l : List ℕ). getD l (48 + i) 0) (sym (bits-raws r S (octetsWith bit xs)) ∙ bits-append six xs)
+      let six : List ℕ = 0 ∷ 0 ∷ 0 ∷ 0 ∷ startOctet ∷ (length xs + 128 * form .bit) ∷ [] in
+      ap (λ (l : List ℕ). getD l (48 + i) 0) (sym (bits-raws r S (octetsWith (form .bit) xs)) ∙ bits-append six xs)
       ∙ ap (λ (n : ℕ). getD (bits six ++ bits xs) (n + i) 0) (sym (bits-long six))
       ∙ getD-append-add (bits six) (bits xs) i 0
 
@@ -149,11 +149,11 @@ module _ (r : Radio) (S : Sound r) (bit : ℕ) (low : bit ≤ 1) (report : List 
   pub bits-within : (i : ℕ) → (getD (bits report) i 0 ≡ getD (bits other) i 0 → ⊥) → (s * r .bits - 48 ≤ i) × (i < s * r .bits - 48 + 16)
   bits-within i n =
       let w =
-      within-two (r .bits) (bits-pos r S) bits-few (raws r (octetsWith bit report)) (raws r (octetsWith bit other)) s differ-two (48 + i)
+      within-two (r .bits) (bits-pos r S) bits-few (raws r (octetsWith (form .bit) report)) (raws r (octetsWith (form .bit) other)) s differ-two (48 + i)
       (λ e. n (shifted e)) in
       (omega (arith, w .0, w .1, sent-after), omega (arith, w .0, w .1, sent-after))
     where
-      shifted : getD (bitsOf (r .bits) (raws r (octetsWith bit report))) (48 + i) 0 ≡ getD (bitsOf (r .bits) (raws r (octetsWith bit other))) (48 + i) 0
+      shifted : getD (bitsOf (r .bits) (raws r (octetsWith (form .bit) report))) (48 + i) 0 ≡ getD (bitsOf (r .bits) (raws r (octetsWith (form .bit) other))) (48 + i) 0
           → getD (bits report) i 0 ≡ getD (bits other) i 0
       shifted e = sym (report-bit report i) ∙ e ∙ report-bit other i
 
@@ -176,11 +176,11 @@ module _ (r : Radio) (S : Sound r) (chips vs : List ℕ) (A : ReadAs r chips vs)
       }
 
 -- A checked frame of which one symbol, of the report or of its FCS, is read as another value.
-module _ (mode : ℕ) (k : known mode ≡ true) (bit : ℕ) (low : bit ≤ 1)
+module _ (mode : ℕ) (k : known mode ≡ true) (form : Form) (m : OneOf (forms (radioOf mode)) form)
     (report : List ℕ) (o : Below 256 report) (one : 1 ≤ length report) (short : length report ≤ 125)
-    (s v : ℕ) (h : 6 * perOctet (radioOf mode) ≤ s) (l : s < length (symbolsWith (radioOf mode) bit (withFcs report)))
-    (n : v ≡ getD (symbolsWith (radioOf mode) bit (withFcs report)) s 0 → ⊥)
-    (chips : List ℕ) (A : ReadAs (radioOf mode) chips (set (symbolsWith (radioOf mode) bit (withFcs report)) s v)) where
+    (s v : ℕ) (h : 6 * perOctet (radioOf mode) ≤ s) (l : s < length (symbolsWith (radioOf mode) form (withFcs report)))
+    (n : v ≡ getD (symbolsWith (radioOf mode) form (withFcs report)) s 0 → ⊥)
+    (chips : List ℕ) (A : ReadAs (radioOf mode) chips (set (symbolsWith (radioOf mode) form (withFcs report)) s v)) where
   abbrev r : Radio
   r = radioOf mode
 
@@ -190,30 +190,33 @@ module _ (mode : ℕ) (k : known mode ≡ true) (bit : ℕ) (low : bit ≤ 1)
   P : Report sent
   P = with-report report o short
 
+  F : Proper r form
+  F = proper r form m
+
   v-known : v < 2 ^ r .bits
   v-known =
-      let e : getD (set (symbolsWith r bit sent) s v) s 0 ≡ v = getD-set-same (symbolsWith r bit sent) s v 0 l in
-      let q = read-at r (sound mode) chips (set (symbolsWith r bit sent) s v) A s (omega (arith, l, length-set (symbolsWith r bit sent) s v)) .known in
+      let e : getD (set (symbolsWith r form sent) s v) s 0 ≡ v = getD-set-same (symbolsWith r form sent) s v 0 l in
+      let q = read-at r (sound mode) chips (set (symbolsWith r form sent) s v) A s (omega (arith, l, length-set (symbolsWith r form sent) s v)) .known in
       rw (e, sound mode .many) at q
 
   abbrev got : List ℕ
-  got = other r (sound mode) bit low sent P s v h v-known
+  got = other r (sound mode) form F sent P s v h v-known
 
   long : length got ≡ length report + 2
-  long = other-long r (sound mode) bit low sent P s v h v-known ∙ with-long report
+  long = other-long r (sound mode) form F sent P s v h v-known ∙ with-long report
 
   -- it is another report
   another : sent ≡ got → ⊥
   another e =
       n
       (sym
-      (ap (λ (xs : List ℕ). getD xs s 0) (ap (symbolsWith r bit) e ∙ other-symbols r (sound mode) bit low sent P s v h v-known)
-      ∙ getD-set-same (symbolsWith r bit sent) s v 0 l))
+      (ap (λ (xs : List ℕ). getD xs s 0) (ap (symbolsWith r form) e ∙ other-symbols r (sound mode) form F sent P s v h v-known)
+      ∙ getD-set-same (symbolsWith r form sent) s v 0 l))
 
   got-wrong : checkOf got ≡ BADCHECK
   got-wrong =
-      run-caught report got o (other-below r (sound mode) bit low sent P s v h v-known) long one another (s * r .bits - 48)
-      (bits-within r (sound mode) bit low sent P s v h v-known)
+      run-caught report got o (other-below r (sound mode) form F sent P s v h v-known) long one another (s * r .bits - 48)
+      (bits-within r (sound mode) form F sent P s v h v-known)
 
   -- It is 15, at the frame's number of symbols, with nothing stored.
   pub one-misread : (buffer : List ℕ) → length report + 2 ≤ length buffer
@@ -221,13 +224,13 @@ module _ (mode : ℕ) (k : known mode ≡ true) (bit : ℕ) (low : bit ≤ 1)
   unfolding reading
   one-misread buffer room =
       let S = sound mode in
-      let vs = set (symbolsWith r bit sent) s v in
-      let q = other-symbols r S bit low sent P s v h v-known in
+      let vs = set (symbolsWith r form sent) s v in
+      let q = other-symbols r S form F sent P s v h v-known in
       let R : Report got =
-      record { short = omega (arith, long, short); octets = below-at 256 got (other-below r S bit low sent P s v h v-known) } in
+      record { short = omega (arith, long, short); octets = below-at 256 got (other-below r S form F sent P s v h v-known) } in
       let T = rw (← q) at (read-stands r S chips vs A) in
-      let a = windows-answer r S (whole r chips) bit low got R _ T (length buffer) (omega (arith, long, room)) in
-      let out = success-answers mode k chips buffer got _ .1 (answers-done r S (length buffer) chips got _ _ _ a) in
-      checked-refused mode chips buffer got _ _ out (λ z. eqb-false BADCHECK DONE refl (sym got-wrong ∙ z))
+      let a = windows-answer r S (whole r chips) form F got R _ T (length buffer) (omega (arith, long, room)) in
+      let out = success-answers mode k chips buffer got _ .1 (answers-done r S (length buffer) chips got _ _ _ _ a) in
+      checked-refused mode chips buffer got _ _ _ out (λ z. eqb-false BADCHECK DONE refl (sym got-wrong ∙ z))
       ∙ ap₂ (λ x place. tells x place buffer) got-wrong
-      (sym (symbols-same r bit got) ∙ ap length q ∙ length-set (symbolsWith r bit sent) s v ∙ symbols-same r bit sent)
+      (sym (symbols-same r form got) ∙ ap length q ∙ length-set (symbolsWith r form sent) s v ∙ symbols-same r form sent)

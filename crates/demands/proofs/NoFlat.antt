@@ -10,7 +10,7 @@ use Rattle.codes.specs.Radio.{Radio, Sound, Unflat, word}
 use Rattle.frame.specs.Frame.{symbols, symbolsWith}
 use Rattle.frame.proofs.Count.{symbols-same}
 use Rattle.order.specs.Order.{window, whole}
-use Rattle.demands.specs.Words.{Answers, bitIn}
+use Rattle.demands.specs.Words.{Answers, formIn}
 use Rattle.demands.proofs.Demand3.{answer-frame}
 use Rattle.demands.proofs.Frames.{symbol-known, window-in, frame-window}
 
@@ -18,9 +18,9 @@ use Rattle.demands.proofs.Frames.{symbol-known, window-in, frame-window
 pub no-flat : (r : Radio) → Sound r → Unflat r → (room : ℕ) (chips report : List ℕ) (count : ℕ) → Answers r room chips report count
     → (s : ℕ) → s < length (symbols r report) → (c : ℕ) → c ≤ 1 → window r chips s ≡ replicate (r .size) c → ⊥
 no-flat r S U room chips report count a s h c l e =
-    let bit = bitIn r (whole r chips) in
-    let vs = symbolsWith r bit report in
-    let q : s < length vs = rw (symbols-same r bit report) h in
-    let near = answer-frame r S room chips report count a .1 .near s (window-in r S bit report s q) in
-    let close : distance (replicate (r .size) c) (word r (getD vs s 0)) ≤ r .limit = rw (e, frame-window r S bit report s q) at near in
-    omega (arith, U c (getD vs s 0) l (symbol-known r S bit report s q))
+    let form = formIn r (whole r chips) in
+    let vs = symbolsWith r form report in
+    let q : s < length vs = rw (symbols-same r form report) h in
+    let near = answer-frame r S room chips report count a .1 .near s (window-in r S form report s q) in
+    let close : distance (replicate (r .size) c) (word r (getD vs s 0)) ≤ r .limit = rw (e, frame-window r S form report s q) at near in
+    omega (arith, U c (getD vs s 0) l (symbol-known r S form report s q))

@@ -9,8 +9,8 @@ use lib.Seq.{take-at, length-take-le}
 use Rattle.codes.specs.Radio.{Radio, Sound}
 use Rattle.frame.specs.Frame.{symbols}
 use Rattle.reader.specs.Read.{told, answerAt, readOf}
-use Rattle.demands.specs.Words.{Report, frames, OneOf, frameRead, frameGap, Answers, Near}
-use Rattle.demands.proofs.Demand3.{answer-room, demand-3, near-read}
+use Rattle.demands.specs.Words.{Report, frames, OneOf, frameRead, polarityIn, frameGap, Answers, Near}
+use Rattle.demands.proofs.Demand3.{answer-room, demand-3, near-read, near-polarity}
 use Rattle.demands.proofs.Path.{same-parts}
 use Rattle.demands.proofs.Frames.{near-same, some-symbols, member-long, member-window}
 use Rattle.demands.proofs.Fronts.{window-same}
@@ -23,13 +23,15 @@ one-frame r S chips a b f g c d p q k l m n =
     let e =
     sym (demand-3 r S 127 chips a c (p .short) .1 (p, record { frame = f; member = k; near = m }))
     ∙ demand-3 r S 127 chips b d (q .short) .1 (q, record { frame = g; member = l; near = n }) in
-    let s = same-parts _ _ c d _ _ a b e in
+    let s = same-parts _ _ c d _ _ _ _ a b e in
     (s .1, near-read r S chips a f c p k m ∙ ap (frameRead r chips) (s .1) ∙ sym (near-read r S chips b g d q l n), s .2)
 
--- other chips after the frame, as long as each of the report's is: the same answer, gap included
+-- other chips after the frame, as long as each of the report's is: the same answer, gap and polarity
+-- included
 pub after-frame : (r : Radio) → Sound r → (room : ℕ) (chips report : List ℕ) (count : ℕ) → Answers r room chips report count
     → (frame : List ℕ) → OneOf (frames r report) frame → (more : List ℕ)
     → Answers r room (take (length frame) chips ++ more) report count × (frameGap r (take (length frame) chips ++ more) report ≡ frameGap r chips report)
+    × (polarityIn r (take (length frame) chips ++ more) ≡ polarityIn r chips)
 after-frame r S room chips report count a frame m more =
     let l = answer-room r S room chips report count a in
     let near = demand-3 r S room chips report count l .0 a in
@@ -40,13 +42,13 @@ after-frame r S room chips report count a frame m more =
     let others = take k chips ++ more in
     let long : k ≤ length others = omega (arith, length-append (take k chips) more) in
     let front : take k chips ≡ take k others = sym (take-at (take k chips) more k t) in
+    let still = near-same r chips others f count long front (near .1 .near) in
     rw same (
-      demand-3 r S room others report count l .1 (
-        near .0,
-        record { frame = f; member = near .1 .member; near = near-same r chips others f count long front (near .1 .near) },
-      ),
+      demand-3 r S room others report count l .1 (near .0, record { frame = f; member = near .1 .member; near = still }),
       gap-same r others chips (length (symbols r report)) (some-symbols r S report)
           (λ j h. window-same r j k others chips (member-window r S report f (near .1 .member) j h) (sym front)),
+      near-polarity r S others report f count (near .0) (near .1 .member) still
+          ∙ sym (near-polarity r S chips report f count (near .0) (near .1 .member) (near .1 .near)),
     )
 
 -- another room that has place for the report: the same answer

@@ -18,7 +18,7 @@ use Rattle.codes.specs.Symbol.{symbolOf}
 use Rattle.codes.proofs.Tests.{by-test}
 use Rattle.order.specs.Received.{received}
 use Rattle.order.proofs.Windows.{seen, seen-front, seen-next, rest, rest-more, rest-out}
-use Rattle.order.specs.Order.{Answer, refused, done, values, repaired, smallestGap, verdict, reportIn, concluded, taking}
+use Rattle.order.specs.Order.{Answer, refused, done, values, verdict, succeeded, concluded, taking}
 
 -- the raw symbols of the first k windows
 abbrev pub rawsTo : Radio → List (List ℕ) → ℕ → List ℕ
@@ -34,33 +34,38 @@ pub record Run (r : Radio) (room : ℕ) (ws : List (List ℕ)) (m k : ℕ) : Typ
 
 -- what it answers
 abbrev pub ending : Radio → List (List ℕ) → ℕ → Answer
-ending r ws k = done (suc k) (reportIn r (rawsTo r ws (suc k))) (repaired (take (suc k) (seen r ws))) (smallestGap (take (suc k) (seen r ws)))
+ending r ws k = succeeded r k (take (suc k) (seen r ws))
 
 -- the parts of an answer
 doneNumber : Answer → ℕ
 doneNumber (refused x s) = 1
-doneNumber (done s report count gap) = 0
+doneNumber (done s report count gap polarity) = 0
 
 placeOf : Answer → ℕ
 placeOf (refused x s) = s
-placeOf (done s report count gap) = s
+placeOf (done s report count gap polarity) = s
 
 reportOf : Answer → List ℕ
 reportOf (refused x s) = []
-reportOf (done s report count gap) = report
+reportOf (done s report count gap polarity) = report
 
 countOf : Answer → ℕ
 countOf (refused x s) = 0
-countOf (done s report count gap) = count
+countOf (done s report count gap polarity) = count
 
 gapPart : Answer → ℕ
 gapPart (refused x s) = 0
-gapPart (done s report count gap) = gap
+gapPart (done s report count gap polarity) = gap
+
+polarityPart : Answer → ℕ
+polarityPart (refused x s) = 0
+polarityPart (done s report count gap polarity) = polarity
 
 -- answers that are done and equal have equal parts
-pub same-parts : (p q c d g h : ℕ) (xs ys : List ℕ) → done p xs c g ≡ done q ys d h → (p ≡ q) × (xs ≡ ys) × (c ≡ d) × (g ≡ h)
-unfolding placeOf reportOf countOf gapPart
-same-parts p q c d g h xs ys e = (ap placeOf e, ap reportOf e, ap countOf e, ap gapPart e)
+pub same-parts : (p q c d g h u v : ℕ) (xs ys : List ℕ) → done p xs c g u ≡ done q ys d h v
+    → (p ≡ q) × (xs ≡ ys) × (c ≡ d) × (g ≡ h) × (u ≡ v)
+unfolding placeOf reportOf countOf gapPart polarityPart
+same-parts p q c d g h u v xs ys e = (ap placeOf e, ap reportOf e, ap countOf e, ap gapPart e, ap polarityPart e)
 
 module _ (r : Radio) (room : ℕ) (ws : List (List ℕ)) where
   -- one symbol of the reading
@@ -100,16 +105,16 @@ module _ (r : Radio) (room : ℕ) (ws : List (List ℕ)) where
       ∙ rw (eq-eqb _ DONE (good k (omega arith)), e, m, d)
 
   -- a reading that is done is that of a run
-  pub reading-run : (n m place count gap : ℕ) (report : List ℕ) → m + n ≡ length ws
-      → rest r ws room m ≡ done place report count gap → (k : ℕ) × Run r room ws m k × (ending r ws k ≡ done place report count gap)
+  pub reading-run : (n m place count gap polarity : ℕ) (report : List ℕ) → m + n ≡ length ws
+      → rest r ws room m ≡ done place report count gap polarity → (k : ℕ) × Run r room ws m k × (ending r ws k ≡ done place report count gap polarity)
   unfolding concluded doneNumber
-  reading-run zero m place count gap report l e =
+  reading-run zero m place count gap polarity report l e =
       absurd (omega (arith, ap doneNumber (sym (rest-out r ws room m (omega arith)) ∙ e)))
-  reading-run (suc n) m place count gap report l e =
+  reading-run (suc n) m place count gap polarity report l e =
       let q = sym (step m h) ∙ e in
       by-test (eqb (symbolOf r (getD ws m []) .number) DONE)
       (λ a. by-test (eqb x MORE)
-      (λ b. further (eqb-true _ _ a) (eqb-true _ _ b) (reading-run n (suc m) place count gap report (omega arith) (rw (a, b) at q)))
+      (λ b. further (eqb-true _ _ a) (eqb-true _ _ b) (reading-run n (suc m) place count gap polarity report (omega arith) (rw (a, b) at q)))
       (λ b. by-test (eqb x DONE)
       (λ c. (
         m,
@@ -133,7 +138,7 @@ module _ (r : Radio) (room : ℕ) (ws : List (List ℕ)) where
       x = verdict r room m (rawsTo r ws (suc m))
 
       further : symbolOf r (getD ws m []) .number ≡ DONE → x ≡ MORE → (k : ℕ) × Run r room ws (suc m) k
-          × (ending r ws k ≡ done place report count gap) → (k : ℕ) × Run r room ws m k × (ending r ws k ≡ done place report count gap)
+          × (ending r ws k ≡ done place report count gap polarity) → (k : ℕ) × Run r room ws m k × (ending r ws k ≡ done place report count gap polarity)
       further a b (k, R, o) = (
         k,
         record {

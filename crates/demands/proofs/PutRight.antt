@@ -1,5 +1,5 @@
--- An accepted buffer with one wrong chip of its frame put right is accepted with the same report, a
--- count one less and no smaller a gap. Assumes nothing.
+-- An accepted buffer with one wrong chip of its frame put right is accepted with the same report and
+-- polarity, a count one less and no smaller a gap. Assumes nothing.
 use mathlib.Core.Path.{_≡_, sym, ap, _∙_}
 use mathlib.Core.Bool.{false}
 use mathlib.Core.List.{List}
@@ -10,11 +10,12 @@ use lib.Seq.{take-set-lt, getD-take, length-take-le}
 use Rattle.codes.specs.Chips.{distance, bad}
 use Rattle.codes.specs.Radio.{Radio, Sound}
 use Rattle.codes.proofs.Chips.{chip-at}
-use Rattle.demands.specs.Words.{frames, OneOf, frameGap, Answers, Near}
-use Rattle.demands.proofs.Demand3.{answer-room, demand-3}
+use Rattle.demands.specs.Words.{frames, OneOf, polarityIn, frameGap, Answers, Near}
+use Rattle.demands.proofs.Demand3.{answer-room, demand-3, near-polarity}
 use Rattle.demands.proofs.Repair.{one-less, between, bad-set}
 use Rattle.demands.proofs.HowClose.{right-gap}
-use Rattle.demands.proofs.Frames.{bit-of, member-good}
+use Rattle.demands.proofs.Forms.{sent-as}
+use Rattle.demands.proofs.Frames.{member-good}
 
 -- chips near a frame, with one wrong chip put right, are near it with a count one less
 nearer : (r : Radio) (chips frame : List ℕ) (count : ℕ) → bad frame ≡ false → Near r chips frame count → (i : ℕ) → i < length frame
@@ -35,18 +36,20 @@ nearer r chips frame count good n i h w =
     )
 
 -- One wrong chip of an accepted frame put right, of that one of the report's frames which the chips
--- are near: the same report, a count one less, and no smaller a gap.
+-- are near: the same report and polarity, a count one less, and no smaller a gap.
 pub put-right : (r : Radio) → Sound r → (room : ℕ) (chips report : List ℕ) (count : ℕ) → Answers r room chips report count
     → (frame : List ℕ) → OneOf (frames r report) frame → Near r chips frame count
     → (i : ℕ) → i < length frame → (getD chips i 0 ≡ getD frame i 0 → ⊥)
     → (c : ℕ) × (count ≡ suc c) × Answers r room (set chips i (getD frame i 0)) report c
-    × (frameGap r chips report ≤ frameGap r (set chips i (getD frame i 0)) report)
+    × (frameGap r chips report ≤ frameGap r (set chips i (getD frame i 0)) report) × (polarityIn r (set chips i (getD frame i 0)) ≡ polarityIn r chips)
 put-right r S room chips report count a frame m near i h w =
     let l = answer-room r S room chips report count a in
     let p = demand-3 r S room chips report count l .0 a .0 in
-    let n = nearer r chips frame count (member-good r S report frame m) near i h w in (
+    let n = nearer r chips frame count (member-good r S report frame m) near i h w in
+    let others = set chips i (getD frame i 0) in (
       n .0,
       n .1,
-      demand-3 r S room (set chips i (getD frame i 0)) report (n .0) l .1 (p, record { frame = frame; member = m; near = n .2 }),
-      right-gap r S report frame (bit-of r report frame m) chips count near i (n .0) h (n .2),
+      demand-3 r S room others report (n .0) l .1 (p, record { frame = frame; member = m; near = n .2 }),
+      right-gap r S report frame (sent-as r report frame m) chips count near i (n .0) h (n .2),
+      near-polarity r S others report frame (n .0) p m (n .2) ∙ sym (near-polarity r S chips report frame count p m near),
     )

@@ -11,11 +11,11 @@ use Rattle.codes.specs.Symbol.{symbolOf}
 use Rattle.codes.specs.declared.Symbol.{Symbol}
 use Rattle.codes.proofs.Unique.{readAs}
 use Rattle.frame.specs.Frame.{perOctet}
-use Rattle.order.specs.Received.{received, octetAt}
+use Rattle.order.specs.Received.{chainStart, polarityOf, received, octetAt}
 use Rattle.order.specs.Order.{values, repaired}
 use Rattle.order.proofs.Windows.{seen, seen-front}
 use Rattle.order.proofs.Carried as carried
-use Rattle.demands.proofs.Back.{decode-take}
+use Rattle.demands.proofs.Back.{received-take}
 use Rattle.demands.proofs.Octet.{octet-take}
 
 -- the windows begin with the symbols vs, each read as its word; count chips are repaired in all
@@ -29,7 +29,7 @@ map-at f [] j d e h = absurd (omega arith)
 map-at f (x ∷ l) zero d e h = refl
 map-at f (x ∷ l) (suc j) d e h = map-at f l j d e (omega arith)
 
-take-map : {A B : Type 0} (f : A → B) (j : ℕ) (l : List A) → take j (map f l) ≡ map f (take j l)
+pub take-map : {A B : Type 0} (f : A → B) (j : ℕ) (l : List A) → take j (map f l) ≡ map f (take j l)
 take-map f zero l = refl
 take-map f (suc j) [] = refl
 take-map {B = B} f (suc j) (x ∷ l) = ap (λ (m : List B). f x ∷ m) (take-map f j l)
@@ -59,5 +59,11 @@ module _ (r : Radio) (ws : List (List ℕ)) where
       → octetAt r k (received r (values (take n (seen r ws)))) ≡ octetAt r k (received r (values (seen r ws)))
   octet-front k n h =
       ap (λ (vs : List ℕ). octetAt r k (received r vs)) (sym (take-map (λ (x : Symbol). x .value) n (seen r ws)))
-      ∙ ap (octetAt r k) (sym (decode-take r 0 n (values (seen r ws))))
+      ∙ ap (octetAt r k) (sym (received-take r n (values (seen r ws))))
       ∙ octet-take r k n (received r (values (seen r ws))) h
+
+  -- as is the polarity off the first
+  pub polarity-front : (n : ℕ) → 0 < n → polarityOf r (values (take n (seen r ws))) ≡ polarityOf r (values (seen r ws))
+  polarity-front n h =
+      ap (polarityOf r) (sym (take-map (λ (x : Symbol). x .value) n (seen r ws)))
+      ∙ ap (chainStart r) (getD-take n (values (seen r ws)) 0 0 h)

@@ -24,7 +24,7 @@ use Rattle.order.proofs.Windows.{whole-sized}
 use Rattle.receiver.specs.declared.Receiver.{Receiver}
 use Rattle.receiver.specs.declared.Step.{Step}
 use Rattle.receiver.specs.Record.{startOf, forged, tookSymbol, pushOf, finishOf, roomFor, takeOf}
-use Rattle.demands.specs.Words.{Report, frameGap, NearOne, success}
+use Rattle.demands.specs.Words.{Report, polarityIn, frameGap, NearOne, success}
 use Rattle.demands.specs.Calls.{Call, pushing, called, after, stray, counted, inOrder}
 use Rattle.receiver.proofs.Stepping.{Going, Gone, start-going, start-gone, honest, going-open, finish-gone, push-going}
 use Rattle.demands.proofs.Demand3.{answers-done, answer-room}
@@ -145,8 +145,8 @@ module _ (mode : ℕ) (chips : List ℕ) where
     where
       go : (a : Answer) → reading (radioOf mode) 127 chips ≡ a → roomFor 127 a ≡ a
       go (refused x place) e = refl
-      go (done place report count gap) e =
-          let a = answers-done (radioOf mode) (sound mode) 127 chips report count place gap e in
+      go (done place report count gap polarity) e =
+          let a = answers-done (radioOf mode) (sound mode) 127 chips report count place gap polarity e in
           rw (le-ltb 127 (length report) (answer-room (radioOf mode) (sound mode) 127 chips report count a))
 
   -- None of the calls in order answers 10, 11 or 12: so what `steps-read` supposes of a list of
@@ -172,10 +172,10 @@ module _ (mode : ℕ) (chips : List ℕ) where
         ap (λ (c : Receiver). takeOf c buffer) (sym (no-difference begun xs) ∙ ap (after begun) e) ∙ in-order-reads
 
     -- So take tells a report and a count just where the chips are near one of the report's frames,
-    -- and their gap with them.
+    -- and their gap and polarity with them.
     pub steps-report : known mode ≡ true → (xs : List Call) → counted begun xs ≡ inOrder begun (whole (radioOf mode) chips)
         → (report : List ℕ) (count : ℕ) → length report ≤ 127
-        → (takeOf (after begun xs) buffer ≡ success mode buffer report count (frameGap (radioOf mode) chips report))
+        → (takeOf (after begun xs) buffer ≡ success mode buffer report count (frameGap (radioOf mode) chips report) (polarityIn (radioOf mode) chips))
         ↔ (Report report × NearOne (radioOf mode) chips report count)
     steps-report k xs e report count h =
         let s = steps-read xs e in

@@ -1,24 +1,25 @@
--- What the reserved bit does to the chips of a chained radio whose two words are each other's
--- inverse, as mode 0's are: before the bit's symbol, number 47, the two frames of a report are the
--- same, and from there on each chip of the one is the other's inverted, since the chain has turned
--- over. Assumes nothing.
-use mathlib.Core.Path.{_≡_, refl, sym, ap, _∙_}
+-- What the polarity and the reserved bit do to the chips of a chained radio whose two words are each
+-- other's inverse, as mode 0's are. Sent the other way round, every chip of a frame is inverted.
+-- With the bit set, the frame is the same before the bit's symbol, number 47, and from there on
+-- each chip is inverted, since the chain has turned over. So a report's frames are four in mode 0,
+-- and two in the others. Assumes nothing.
+use mathlib.Core.Path.{_≡_, refl, sym, ap, ap₂, _∙_}
 use mathlib.Core.Bool.{true}
 use mathlib.Core.List.{List, [], _∷_, _++_, append-assoc, map-append}
 use Prim.Native.Nat.{ℕ, zero, suc, _+_, _-_, _*_, _/_, _%_, _^_, _≤_}
 use native.Mathlib.Omega.{arith}
 use lib.ListN.{length, take, drop, length-append}
 use lib.Seq.{take-at, drop-at}
-use Rattle.codes.specs.Radio.{Radio, Sound, word, bpsk, bpskWords}
+use Rattle.codes.specs.Radio.{Radio, Sound, word, bpsk, oqpsk, lowband, bpskWords}
 use Rattle.codes.proofs.Facts.{sound-bpsk}
-use Rattle.frame.specs.Frame.{startOctet, octetsWith, perOctet, digits, rawOf, raws, sent, encode, symbolsWith, chipsOf, frameWith}
+use Rattle.frame.specs.Frame.{startOctet, octetsWith, perOctet, digits, rawOf, raws, sent, encode, formed, symbolsWith, chipsOf, frame, frameWith}
 use Rattle.frame.specs.Putting.{lastSent}
 use Rattle.frame.proofs.Below.{Below, below-append}
 use Rattle.frame.proofs.Chain.{encode-long}
 use Rattle.frame.proofs.Count.{digits-long, digits-below, raws-long, raws-below, encode-below, chips-long}
 use Rattle.frame.proofs.Parts.{raws-append}
 use Rattle.frame.proofs.Turns.{encode-append, chips-append}
-use Rattle.demands.specs.Words.{inverse}
+use Rattle.demands.specs.Words.{frames, inverse}
 use Rattle.demands.proofs.Spread.{digits-add, digits-low}
 
 -- the bits of a length octet: n's seven, then the reserved one
@@ -65,7 +66,17 @@ module _ (r : Radio) (S : Sound r) (c : r .chained ≡ true) (o : Opposite r) wh
   chips-inverse (v ∷ vs) p =
       rw (o v (omega (arith, p .0)), chips-inverse vs (p .1)) (sym (map-append (λ (x : ℕ). 1 - x) (word r v) (chipsOf r vs)))
 
-  module _ (report : List ℕ) (short : length report ≤ 127) where
+  -- so a frame whose chain starts from 1 is inverse in every chip to the one whose chain starts
+  -- from 0
+  pub inverse-frame : (bit : ℕ) (report : List ℕ) → frameWith r (formed bit 1) report ≡ inverse (frameWith r (formed bit 0) report)
+  unfolding frameWith symbolsWith
+  inverse-frame bit report =
+      let bs = raws r (octetsWith bit report) in
+      let b : Below 2 bs = rw two at (raws-below r (octetsWith bit report)) in
+      ap (chipsOf r) (encode-inverse 0 (omega arith) bs b)
+      ∙ chips-inverse (encode r 0 bs) (rw two at (encode-below r S 0 bs (raws-below r (octetsWith bit report))))
+
+  module _ (polarity : ℕ) (report : List ℕ) (short : length report ≤ 127) where
     -- the raw symbols before the bit, and those after it
     abbrev front : List ℕ
     front = raws r (0 ∷ 0 ∷ 0 ∷ 0 ∷ startOctet ∷ []) ++ digits 7 2 (length report)
@@ -87,10 +98,10 @@ module _ (r : Radio) (S : Sound r) (c : r .chained ≡ true) (o : Opposite r) wh
         below-append (2 ^ r .bits) (raws r (0 ∷ 0 ∷ 0 ∷ 0 ∷ startOctet ∷ [])) (digits 7 2 (length report))
         (raws-below r (0 ∷ 0 ∷ 0 ∷ 0 ∷ startOctet ∷ [])) (rw two (digits-below 7 2 (length report) (omega arith)))
 
-    front-long : length (chipsOf r (encode r 0 front)) ≡ 47 * r .size
+    front-long : length (chipsOf r (encode r polarity front)) ≡ 47 * r .size
     front-long =
-        chips-long r S (encode r 0 front) (encode-below r S 0 front front-below)
-        ∙ ap (λ (n : ℕ). n * r .size) (encode-long r 0 front ∙ forty-seven)
+        chips-long r S (encode r polarity front) (encode-below r S polarity front front-below)
+        ∙ ap (λ (n : ℕ). n * r .size) (encode-long r polarity front ∙ forty-seven)
       where
         forty-seven : length front ≡ 47
         forty-seven =
@@ -101,18 +112,18 @@ module _ (r : Radio) (S : Sound r) (c : r .chained ≡ true) (o : Opposite r) wh
 
     -- the value before the bit's symbol
     abbrev last : ℕ
-    last = lastSent r 0 front
+    last = lastSent r polarity front
 
-    halves : (bit : ℕ) → bit ≤ 1 → frameWith r bit report ≡ chipsOf r (encode r 0 front) ++ chipsOf r (encode r last (bit ∷ back))
+    halves : (bit : ℕ) → bit ≤ 1 → frameWith r (formed bit polarity) report ≡ chipsOf r (encode r polarity front) ++ chipsOf r (encode r last (bit ∷ back))
     unfolding frameWith symbolsWith
     halves bit l =
-        rw (all bit l, encode-append r 0 front (bit ∷ back)) (chips-append r (encode r 0 front) (encode r last (bit ∷ back)))
+        rw (all bit l, encode-append r polarity front (bit ∷ back)) (chips-append r (encode r polarity front) (encode r last (bit ∷ back)))
 
-    before : (bit : ℕ) → bit ≤ 1 → take (47 * r .size) (frameWith r bit report) ≡ chipsOf r (encode r 0 front)
-    before bit l = rw (halves bit l) (take-at (chipsOf r (encode r 0 front)) (chipsOf r (encode r last (bit ∷ back))) (47 * r .size) front-long)
+    before : (bit : ℕ) → bit ≤ 1 → take (47 * r .size) (frameWith r (formed bit polarity) report) ≡ chipsOf r (encode r polarity front)
+    before bit l = rw (halves bit l) (take-at (chipsOf r (encode r polarity front)) (chipsOf r (encode r last (bit ∷ back))) (47 * r .size) front-long)
 
-    after : (bit : ℕ) → bit ≤ 1 → drop (47 * r .size) (frameWith r bit report) ≡ chipsOf r (encode r last (bit ∷ back))
-    after bit l = rw (halves bit l) (drop-at (chipsOf r (encode r 0 front)) (chipsOf r (encode r last (bit ∷ back))) (47 * r .size) front-long)
+    after : (bit : ℕ) → bit ≤ 1 → drop (47 * r .size) (frameWith r (formed bit polarity) report) ≡ chipsOf r (encode r last (bit ∷ back))
+    after bit l = rw (halves bit l) (drop-at (chipsOf r (encode r polarity front)) (chipsOf r (encode r last (bit ∷ back))) (47 * r .size) front-long)
 
     back-below : Below 2 back
     back-below = rw two at (raws-below r report)
@@ -127,22 +138,37 @@ module _ (r : Radio) (S : Sound r) (c : r .chained ≡ true) (o : Opposite r) wh
     turned-below : Below 2 (encode r last (0 ∷ back))
     turned-below = rw two at (encode-below r S last (0 ∷ back) (rw two (omega arith, back-below)))
 
-    pub turns-over : (take (47 * r .size) (frameWith r 1 report) ≡ take (47 * r .size) (frameWith r 0 report))
-        × (drop (47 * r .size) (frameWith r 1 report) ≡ inverse (drop (47 * r .size) (frameWith r 0 report)))
+    pub turns-over : (take (47 * r .size) (frameWith r (formed 1 polarity) report) ≡ take (47 * r .size) (frameWith r (formed 0 polarity) report))
+        × (drop (47 * r .size) (frameWith r (formed 1 polarity) report) ≡ inverse (drop (47 * r .size) (frameWith r (formed 0 polarity) report)))
     turns-over = (
       before 1 (omega arith) ∙ sym (before 0 (omega arith)),
       after 1 (omega arith) ∙ ap (chipsOf r) turned ∙ chips-inverse (encode r last (0 ∷ back)) turned-below ∙ ap inverse (sym (after 0 (omega arith))),
     )
 
-bpsk-opposite : Opposite bpsk
+pub bpsk-opposite : Opposite bpsk
 unfolding bpskWords
 bpsk-opposite zero h = refl
 bpsk-opposite (suc zero) h = refl
 bpsk-opposite (suc (suc v)) h = absurd (omega arith)
 
--- In mode 0 the two frames of a report are the same up to chip 705, where symbol 47 begins, and
--- differ in every chip from there on.
-pub bpsk-turns-over : (report : List ℕ) → length report ≤ 127
-    → (take 705 (frameWith bpsk 1 report) ≡ take 705 (frameWith bpsk 0 report))
-    × (drop 705 (frameWith bpsk 1 report) ≡ inverse (drop 705 (frameWith bpsk 0 report)))
+-- In mode 0 the two frames of a report in one polarity are the same up to chip 705, where symbol 47
+-- begins, and differ in every chip from there on.
+pub bpsk-turns-over : (polarity : ℕ) (report : List ℕ) → length report ≤ 127
+    → (take 705 (frameWith bpsk (formed 1 polarity) report) ≡ take 705 (frameWith bpsk (formed 0 polarity) report))
+    × (drop 705 (frameWith bpsk (formed 1 polarity) report) ≡ inverse (drop 705 (frameWith bpsk (formed 0 polarity) report)))
 bpsk-turns-over = turns-over bpsk sound-bpsk refl bpsk-opposite
+
+-- And a report has four frames in mode 0: the one that is written, that with the reserved bit set,
+-- and the inverse of either in every chip. In the other modes it has two.
+pub bpsk-frames : (report : List ℕ)
+    → frames bpsk report
+    ≡ frame bpsk report ∷ frameWith bpsk (formed 1 0) report ∷ inverse (frame bpsk report) ∷ inverse (frameWith bpsk (formed 1 0) report) ∷ []
+bpsk-frames report =
+    let i = inverse-frame bpsk sound-bpsk refl bpsk-opposite in
+    ap₂ (λ (f g : List ℕ). frame bpsk report ∷ frameWith bpsk (formed 1 0) report ∷ f ∷ g ∷ []) (i 0 report) (i 1 report)
+
+pub oqpsk-frames : (report : List ℕ) → frames oqpsk report ≡ frame oqpsk report ∷ frameWith oqpsk (formed 1 0) report ∷ []
+oqpsk-frames report = refl
+
+pub lowband-frames : (report : List ℕ) → frames lowband report ≡ frame lowband report ∷ frameWith lowband (formed 1 0) report ∷ []
+lowband-frames report = refl

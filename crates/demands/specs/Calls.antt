@@ -77,7 +77,7 @@ FaultyWell c = Faulty (λ total. c .taken ≡ total → ⊥) c
 
 -- what take tells but for a report, with the lent buffer as it was
 abbrev pub tells : ℕ → ℕ → List ℕ → Outcome Reading
-tells x place buffer = outcome (record { number = x; place = place; n = 0; count = 0; gap = 0 }) buffer
+tells x place buffer = outcome (record { number = x; place = place; n = 0; count = 0; gap = 0; polarity = 0 }) buffer
 
 -- Every call gives the record back as it was: push and finish with one number, take with one at
 -- a place.
@@ -88,6 +88,6 @@ pub record Idle (c : Receiver) (x y place : ℕ) : Type 0 where
 
 -- The record holds a report: take gives it into any buffer with room, and into a shorter one a 3 at
 -- the number of symbols of the report's frame, with nothing stored.
-pub record Holds (mode : ℕ) (c : Receiver) (report : List ℕ) (count gap : ℕ) : Type 0 where
-  pub given : (buffer : List ℕ) → length report ≤ length buffer → takeOf c buffer ≡ success mode buffer report count gap
+pub record Holds (mode : ℕ) (c : Receiver) (report : List ℕ) (count gap polarity : ℕ) : Type 0 where
+  pub given : (buffer : List ℕ) → length report ≤ length buffer → takeOf c buffer ≡ success mode buffer report count gap polarity
   pub lacking : (buffer : List ℕ) → length buffer < length report → takeOf c buffer ≡ tells NOROOM (length (symbols (radioOf mode) report)) buffer

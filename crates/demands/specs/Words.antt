@@ -1,20 +1,20 @@
 -- The words that the demands are stated with: a report and its frames; that the reading answers a
--- report and a count; the gap of chips; chips that are one of those frames but for a few in each
--- symbol; the sum of differences; and the reader's outcome that tells a report.
+-- report and a count; the gap of chips and their polarity; chips that are one of those frames but
+-- for a few in each symbol; the sum of differences; and the reader's outcome that tells a report.
 use mathlib.Core.Path.{_≡_}
-use mathlib.Core.Bool.{false}
+use mathlib.Core.Bool.{true, false}
 use mathlib.Core.Logic.{_⊎_}
 use mathlib.Core.List.{List, [], _∷_, _++_, map}
 use Prim.Native.Nat.{ℕ, zero, suc, _+_, _-_, _*_, _/_, _≤_, _<_}
 use lib.ListN.{length, getD, take, drop}
 use Rattle.codes.specs.Numbers.{DONE, NOROOM, PREAMBLE, BADSTART}
-use Rattle.codes.specs.Chips.{distance, bad}
+use Rattle.codes.specs.Chips.{pick, distance, bad}
 use Rattle.codes.specs.Radio.{Radio, radioOf}
 use Rattle.frame.specs.Outcome.{Outcome, outcome}
 use Rattle.codes.specs.Symbol.{least, nearest, nextNearest, symbolOf}
-use Rattle.frame.specs.Frame.{symbols, frameWith}
+use Rattle.frame.specs.Frame.{perOctet, Form, formed, symbols, frameWith}
 use Rattle.reader.specs.declared.Reading.{Reading}
-use Rattle.order.specs.Received.{received, octetAt}
+use Rattle.order.specs.Received.{polarityOf, received, octetAt}
 use Rattle.order.specs.Order.{done, window, windows, whole, values, reading}
 
 -- a report: at most 127 numbers below 256
@@ -22,31 +22,40 @@ pub record Report (report : List ℕ) : Type 0 where
   pub short : length report ≤ 127
   pub octets : (i : ℕ) → i < length report → getD report i 0 < 256
 
--- the reserved bit of a length octet: as it is written, and as others may set it
-abbrev pub reservedBits : List ℕ
-reservedBits = 0 ∷ 1 ∷ []
+-- How frames are sent: as they are written, and with the reserved bit of the length octet set, as
+-- others may do it; and, where there is a chain, either of them the other way round.
+abbrev pub forms : Radio → List Form
+forms r = pick (r .chained) (formed 0 0 ∷ formed 1 0 ∷ formed 0 1 ∷ formed 1 1 ∷ []) (formed 0 0 ∷ formed 1 0 ∷ [])
 
 -- a report's frames, one for each
 abbrev pub frames : Radio → List ℕ → List (List ℕ)
-frames r report = map (λ (bit : ℕ). frameWith r bit report) reservedBits
+frames r report = map (λ (form : Form). frameWith r form report) (forms r)
 
 -- one of a list
-abbrev pub OneOf : List (List ℕ) → List ℕ → Type 0
+abbrev pub OneOf : {A : Type 0} → List A → A → Type 0
 OneOf [] x = ⊥
 OneOf (y ∷ ys) x = (x ≡ y) ⊎ OneOf ys x
-
--- the reserved bit as the symbols in windows have it: the top bit of octet 5, the length octet, of
--- their raw symbols
-abbrev pub bitIn : Radio → List (List ℕ) → ℕ
-bitIn r ws = octetAt r 5 (received r (values (map (symbolOf r) ws))) / 128
-
--- that one of a report's frames which the length octet's symbols in the chips read as
-abbrev pub frameRead : Radio → List ℕ → List ℕ → List ℕ
-frameRead r chips report = frameWith r (bitIn r (whole r chips)) report
 
 -- chips, each of them inverted
 abbrev pub inverse : List ℕ → List ℕ
 inverse chips = map (λ (c : ℕ). 1 - c) chips
+
+-- the values that symbols in windows read as
+abbrev pub valuesIn : Radio → List (List ℕ) → List ℕ
+valuesIn r ws = values (map (symbolOf r) ws)
+
+-- how the frame in them was sent: the reserved bit is the top one of octet 5, the length octet, of
+-- their raw symbols, and the polarity is by the first value
+abbrev pub formIn : Radio → List (List ℕ) → Form
+formIn r ws = formed (octetAt r 5 (received r (valuesIn r ws)) / 128) (polarityOf r (valuesIn r ws))
+
+-- that one of a report's frames which symbol 0 and the length octet's symbols in the chips read as
+abbrev pub frameRead : Radio → List ℕ → List ℕ → List ℕ
+frameRead r chips report = frameWith r (formIn r (whole r chips)) report
+
+-- the polarity of chips
+abbrev pub polarityIn : Radio → List ℕ → ℕ
+polarityIn r chips = formIn r (whole r chips) .polarity
 
 -- how much nearer the nearest word is to a symbol's chips than the next-nearest
 abbrev pub windowGap : Radio → List ℕ → ℕ
@@ -64,9 +73,11 @@ frameGap r chips report = gapIn r chips (length (symbols r report))
 abbrev pub apartIn : ℕ → ℕ
 apartIn mode = getD (15 ∷ 12 ∷ 6 ∷ []) mode 15
 
--- with so much room, the reading of the chips answers this report, this count and their gap
+-- with so much room, the reading of the chips answers this report, this count, their gap and
+-- their polarity
 abbrev pub Answers : Radio → ℕ → List ℕ → List ℕ → ℕ → Type 0
-Answers r room chips report count = reading r room chips ≡ done (length (symbols r report)) report count (frameGap r chips report)
+Answers r room chips report count =
+    reading r room chips ≡ done (length (symbols r report)) report count (frameGap r chips report) (polarityIn r chips)
 
 -- The chips begin with chips 0 or 1 whose distance from a frame is at most the limit in each
 -- symbol's window, and count is the distance of the whole prefix from the whole frame.
@@ -87,16 +98,26 @@ unfoldable pub differences : Radio → List ℕ → List ℕ → ℕ → ℕ
 differences r xs ys zero = 0
 differences r xs ys (suc k) = differences r xs ys k + distance (window r xs k) (window r ys k)
 
--- the reader's outcome that says this report, this count and this gap, and leaves the report at the
--- front of the lent buffer
-abbrev pub success : ℕ → List ℕ → List ℕ → ℕ → ℕ → Outcome Reading
-success mode buffer report count gap =
-    outcome (record { number = DONE; place = length (symbols (radioOf mode) report); n = length report; count = count; gap = gap })
+-- the reader's outcome that says this report, this count, this gap and this polarity, and leaves the
+-- report at the front of the lent buffer
+abbrev pub success : ℕ → List ℕ → List ℕ → ℕ → ℕ → ℕ → Outcome Reading
+success mode buffer report count gap polarity =
+    outcome
+    (record {
+      number = DONE;
+      place = length (symbols (radioOf mode) report);
+      n = length report;
+      count = count;
+      gap = gap;
+      polarity = polarity;
+    })
     (report ++ drop (length report) buffer)
 
--- A number given back stands where the reading order lets it, in a frame with so many symbols an
--- octet: 7 in the preamble, 8 on the last symbol of the start octet, 3 on that of the length octet.
-pub record Placed (per x place : ℕ) : Type 0 where
-  pub preamble : x ≡ PREAMBLE → place < 4 * per
-  pub start : x ≡ BADSTART → suc place ≡ 5 * per
-  pub room : x ≡ NOROOM → suc place ≡ 6 * per
+-- A number given back stands where the reading order lets it: 7 in the preamble, but, where there
+-- is a chain, not at symbol 0, which settles the polarity; 8 on the last symbol of the start octet,
+-- 3 on that of the length octet.
+pub record Placed (r : Radio) (x place : ℕ) : Type 0 where
+  pub preamble : x ≡ PREAMBLE → place < 4 * perOctet r
+  pub second : x ≡ PREAMBLE → r .chained ≡ true → 0 < place
+  pub start : x ≡ BADSTART → suc place ≡ 5 * perOctet r
+  pub room : x ≡ NOROOM → suc place ≡ 6 * perOctet r

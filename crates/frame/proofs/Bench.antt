@@ -14,7 +14,7 @@ use Rattle.codes.specs.Symbol.{least, first, nearest, nearestWord, nearestBut, 
 use Rattle.codes.specs.declared.Symbol.{Symbol}
 use Rattle.codes.proofs.Facts.{oqpsk-flat, lowband-flat}
 use Rattle.frame.specs.Outcome.{outcome}
-use Rattle.frame.specs.Frame.{octetsWith, digits, raws, encode, symbols, symbolsWith, chipsOf, frame, frameWith}
+use Rattle.frame.specs.Frame.{octetsWith, digits, raws, encode, plain, symbols, symbolsWith, chipsOf, frame, frameWith}
 use Rattle.frame.specs.Write.{written}
 use Rattle.frame.proofs.Count.{bpsk-chips, oqpsk-chips, lowband-chips}
 
@@ -104,7 +104,7 @@ bench =
       I = refl;
       J = (refl, refl);
       K = λ report. (refl, refl);
-      L = λ report h. (omega (arith, oqpsk-chips 0 report), omega (arith, bpsk-chips 0 report));
+      L = λ report h. (omega (arith, oqpsk-chips plain report), omega (arith, bpsk-chips plain report));
     }
 
 pub lowband-bench : LowbandSheet
@@ -119,7 +119,7 @@ lowband-bench =
       G = refl;
       H = refl;
       K = λ report. refl;
-      L = λ report h. omega (arith, lowband-chips 0 report);
+      L = λ report h. omega (arith, lowband-chips plain report);
     }
 
 -- The length octet of every frame that is written is n, its reserved bit 0.

@@ -1,12 +1,12 @@
 -- The chain runs through the whole frame: symbol j is what is sent for raw symbol j after the
--- symbol before it, the first after 0. Assumes nothing.
+-- symbol before it, the first after the frame's polarity. Assumes nothing.
 use mathlib.Core.Path.{_≡_, refl, ap}
 use mathlib.Core.List.{List, [], _∷_}
 use Prim.Native.Nat.{ℕ, zero, suc, _<_}
 use native.Mathlib.Omega.{arith}
 use lib.ListN.{length, getD}
 use Rattle.codes.specs.Radio.{Radio}
-use Rattle.frame.specs.Frame.{octetsWith, raws, sent, encode, symbolsWith}
+use Rattle.frame.specs.Frame.{octetsWith, raws, sent, encode, Form, symbolsWith}
 
 module _ (r : Radio) where
   pub encode-long : (last : ℕ) (bs : List ℕ) → length (encode r last bs) ≡ length bs
@@ -27,15 +27,15 @@ module _ (r : Radio) where
   encode-first last [] h = absurd (omega arith)
   encode-first last (b ∷ bs) h = refl
 
-  module _ (bit : ℕ) (report : List ℕ) where
+  module _ (form : Form) (report : List ℕ) where
     abbrev all : List ℕ
-    all = raws r (octetsWith bit report)
+    all = raws r (octetsWith (form .bit) report)
 
     pub symbols-next : (j : ℕ) → suc j < length all
-        → getD (symbolsWith r bit report) (suc j) 0 ≡ sent r (getD (symbolsWith r bit report) j 0) (getD all (suc j) 0)
+        → getD (symbolsWith r form report) (suc j) 0 ≡ sent r (getD (symbolsWith r form report) j 0) (getD all (suc j) 0)
     unfolding symbolsWith
-    symbols-next j h = encode-next 0 all j h
+    symbols-next j h = encode-next (form .polarity) all j h
 
-    pub symbols-first : 0 < length all → getD (symbolsWith r bit report) 0 0 ≡ sent r 0 (getD all 0 0)
+    pub symbols-first : 0 < length all → getD (symbolsWith r form report) 0 0 ≡ sent r (form .polarity) (getD all 0 0)
     unfolding symbolsWith
-    symbols-first h = encode-first 0 all h
+    symbols-first h = encode-first (form .polarity) all h

@@ -12,7 +12,7 @@ use Rattle.codes.proofs.Facts.{sound-bpsk, sound-oqpsk, sound-lowband}
 use Rattle.frame.specs.Putting.{octetChips}
 use Rattle.frame.proofs.Below.{Below, below-append}
 use Rattle.frame.proofs.Chain.{encode-long}
-use Rattle.frame.specs.Frame.{octetsWith, perOctet, digits, rawOf, raws, sent, encode, symbols, symbolsWith, chipsOf, frameWith}
+use Rattle.frame.specs.Frame.{octetsWith, perOctet, digits, rawOf, raws, sent, encode, Form, plain, symbols, symbolsWith, chipsOf, frameWith}
 
 pub digits-long : (k base x : ℕ) → length (digits k base x) ≡ k
 unfolding digits
@@ -51,14 +51,15 @@ module _ (r : Radio) where
   raws-below (x ∷ xs) = below-append (2 ^ r .bits) (rawOf r x) (raws r xs) (raw-below x) (raws-below xs)
 
   -- symbols of a frame
-  pub symbols-long : (bit : ℕ) (report : List ℕ) → length (symbolsWith r bit report) ≡ (6 + length report) * perOctet r
+  pub symbols-long : (form : Form) (report : List ℕ) → length (symbolsWith r form report) ≡ (6 + length report) * perOctet r
   unfolding symbolsWith
-  symbols-long bit report =
-      encode-long r 0 (raws r (octetsWith bit report)) ∙ raws-long (octetsWith bit report) ∙ ap (λ (n : ℕ). n * perOctet r) (omega arith)
+  symbols-long form report =
+      encode-long r (form .polarity) (raws r (octetsWith (form .bit) report)) ∙ raws-long (octetsWith (form .bit) report)
+      ∙ ap (λ (n : ℕ). n * perOctet r) (omega arith)
 
-  -- as many with the reserved bit set
-  pub symbols-same : (bit : ℕ) (report : List ℕ) → length (symbolsWith r bit report) ≡ length (symbols r report)
-  symbols-same bit report = symbols-long bit report ∙ sym (symbols-long 0 report)
+  -- as many however it was sent
+  pub symbols-same : (form : Form) (report : List ℕ) → length (symbolsWith r form report) ≡ length (symbols r report)
+  symbols-same form report = symbols-long form report ∙ sym (symbols-long plain report)
 
 module _ (r : Radio) (S : Sound r) where
   pub sent-below : (last b : ℕ) → b < 2 ^ r .bits → sent r last b < 2 ^ r .bits
@@ -84,32 +85,32 @@ module _ (r : Radio) (S : Sound r) where
       chips-long (encode r last (rawOf r x)) (encode-below last (rawOf r x) (raw-below r x))
       ∙ ap (λ (n : ℕ). n * r .size) (encode-long r last (rawOf r x) ∙ raw-long r x)
 
-  module _ (bit : ℕ) (report : List ℕ) where
+  module _ (form : Form) (report : List ℕ) where
     -- each symbol of a frame has a word
-    pub symbols-below : Below (2 ^ r .bits) (symbolsWith r bit report)
+    pub symbols-below : Below (2 ^ r .bits) (symbolsWith r form report)
     unfolding symbolsWith
-    symbols-below = encode-below 0 (raws r (octetsWith bit report)) (raws-below r (octetsWith bit report))
+    symbols-below = encode-below (form .polarity) (raws r (octetsWith (form .bit) report)) (raws-below r (octetsWith (form .bit) report))
 
     -- chips of a frame, by its symbols
-    pub frame-size : length (frameWith r bit report) ≡ length (symbolsWith r bit report) * r .size
+    pub frame-size : length (frameWith r form report) ≡ length (symbolsWith r form report) * r .size
     unfolding frameWith
-    frame-size = chips-long (symbolsWith r bit report) symbols-below
+    frame-size = chips-long (symbolsWith r form report) symbols-below
 
     -- and by its octets
-    pub frame-long : length (frameWith r bit report) ≡ (6 + length report) * octetChips r
+    pub frame-long : length (frameWith r form report) ≡ (6 + length report) * octetChips r
     frame-long =
         frame-size
-        ∙ ap (λ (n : ℕ). n * r .size) (symbols-long r bit report)
+        ∙ ap (λ (n : ℕ). n * r .size) (symbols-long r form report)
         ∙ mul-assoc (6 + length report) (perOctet r) (r .size)
 
--- A frame has 720 + 120n chips in mode 0, 384 + 64n in mode 1 and 192 + 32n in mode 2, whatever
--- its reserved bit.
-module _ (bit : ℕ) (report : List ℕ) where
-  pub bpsk-chips : length (frameWith bpsk bit report) ≡ 720 + 120 * length report
-  bpsk-chips = omega (arith, frame-long bpsk sound-bpsk bit report)
+-- A frame has 720 + 120n chips in mode 0, 384 + 64n in mode 1 and 192 + 32n in mode 2, however
+-- it was sent.
+module _ (form : Form) (report : List ℕ) where
+  pub bpsk-chips : length (frameWith bpsk form report) ≡ 720 + 120 * length report
+  bpsk-chips = omega (arith, frame-long bpsk sound-bpsk form report)
 
-  pub oqpsk-chips : length (frameWith oqpsk bit report) ≡ 384 + 64 * length report
-  oqpsk-chips = omega (arith, frame-long oqpsk sound-oqpsk bit report)
+  pub oqpsk-chips : length (frameWith oqpsk form report) ≡ 384 + 64 * length report
+  oqpsk-chips = omega (arith, frame-long oqpsk sound-oqpsk form report)
 
-  pub lowband-chips : length (frameWith lowband bit report) ≡ 192 + 32 * length report
-  lowband-chips = omega (arith, frame-long lowband sound-lowband bit report)
+  pub lowband-chips : length (frameWith lowband form report) ≡ 192 + 32 * length report
+  lowband-chips = omega (arith, frame-long lowband sound-lowband form report)

@@ -9,7 +9,7 @@ use native.Mathlib.Omega.{arith}
 use lib.ListN.{length, take, drop}
 use lib.Seq.{take-at, drop-at}
 use Rattle.codes.specs.Radio.{Radio, bpsk, oqpsk, lowband}
-use Rattle.frame.specs.Frame.{startOctet, octetsWith, perOctet, rawOf, raws, symbolsWith}
+use Rattle.frame.specs.Frame.{startOctet, octetsWith, perOctet, rawOf, raws, Form, symbolsWith}
 use Rattle.frame.proofs.Count.{raw-long, raws-long, symbols-long}
 
 -- the preamble is before symbol p, the start octet before s, the length octet before l, and the
@@ -19,7 +19,7 @@ pub record Parts (r : Radio) (p s l k : ℕ) : Type 0 where
   pub start : (bit : ℕ) (report : List ℕ) → take k (drop p (raws r (octetsWith bit report))) ≡ rawOf r startOctet
   pub length-octet : (bit : ℕ) (report : List ℕ) → take k (drop s (raws r (octetsWith bit report))) ≡ rawOf r (length report + 128 * bit)
   pub rest : (bit : ℕ) (report : List ℕ) → drop l (raws r (octetsWith bit report)) ≡ raws r report
-  pub total : (bit : ℕ) (report : List ℕ) → length (symbolsWith r bit report) ≡ l + k * length report
+  pub total : (form : Form) (report : List ℕ) → length (symbolsWith r form report) ≡ l + k * length report
 
 module _ (r : Radio) where
   -- octets xs, then ys: the raw symbols of ys begin where those of xs end
@@ -47,7 +47,7 @@ module _ (r : Radio) where
         length-octet = λ bit report. rw (after (0 ∷ 0 ∷ 0 ∷ 0 ∷ startOctet ∷ []) ((length report + 128 * bit) ∷ report) s es, ← ek)
             (one (length report + 128 * bit) report);
         rest = λ bit report. after (0 ∷ 0 ∷ 0 ∷ 0 ∷ startOctet ∷ (length report + 128 * bit) ∷ []) report l el;
-        total = λ bit report. symbols-long r bit report ∙ omega (
+        total = λ form report. symbols-long r form report ∙ omega (
           arith,
           add-mul 6 (length report) (perOctet r),
           mul-comm (length report) (perOctet r),

@@ -12,7 +12,7 @@ use Rattle.codes.specs.Radio.{known, radioOf}
 use Rattle.codes.proofs.Tests.{by-test}
 use Rattle.codes.proofs.Facts.{sound}
 use Rattle.frame.specs.Outcome.{Outcome, outcome}
-use Rattle.frame.specs.Frame.{frame, frameWith, symbols, chipsOf}
+use Rattle.frame.specs.Frame.{plain, frame, frameWith, symbols, chipsOf}
 use Rattle.frame.specs.declared.Written.{Written}
 use Rattle.frame.specs.Write.{refused, written}
 use Rattle.frame.specs.Putting.{over, octetChips}
@@ -32,7 +32,7 @@ module _ (mode : ℕ) (report buffer : List ℕ) where
 
     module _ (l : length report ≤ 127) (count : ℕ) (e : count ≡ (6 + length report) * octetChips (radioOf mode)) where
       is-count : length (frame (radioOf mode) report) ≡ count
-      is-count = frame-long (radioOf mode) (sound mode) 0 report ∙ sym e
+      is-count = frame-long (radioOf mode) (sound mode) plain report ∙ sym e
 
       pub few : count ≤ 15960
       few = rw e (few-chips mode (length report) l)

@@ -43,26 +43,37 @@ unfoldable pub encode : Radio → ℕ → List ℕ → List ℕ
 encode r last [] = []
 encode r last (b ∷ bs) = sent r last b ∷ encode r (sent r last b) bs
 
--- the symbols of a report's frame: before the first one stands 0, and the chain runs through the
--- whole frame
-unfoldable pub symbolsWith : Radio → ℕ → List ℕ → List ℕ
-symbolsWith r bit report = encode r 0 (raws r (octetsWith bit report))
+-- How a frame was sent: the reserved bit of its length octet, and its polarity, which is the symbol
+-- that stands before the first one.
+pub record Form : Type 0 where
+  pub bit : ℕ
+  pub polarity : ℕ
+
+abbrev pub formed : ℕ → ℕ → Form
+formed bit polarity = record { bit = bit; polarity = polarity }
+
+-- the symbols of a report's frame: the chain runs through the whole frame
+unfoldable pub symbolsWith : Radio → Form → List ℕ → List ℕ
+symbolsWith r form report = encode r (form .polarity) (raws r (octetsWith (form .bit) report))
 
 -- each symbol chooses its word
 unfoldable pub chipsOf : Radio → List ℕ → List ℕ
 chipsOf r [] = []
 chipsOf r (v ∷ vs) = word r v ++ chipsOf r vs
 
--- the frame of a report, with the reserved bit as given
-unfoldable pub frameWith : Radio → ℕ → List ℕ → List ℕ
-frameWith r bit report = chipsOf r (symbolsWith r bit report)
+-- the frame of a report, sent as given
+unfoldable pub frameWith : Radio → Form → List ℕ → List ℕ
+frameWith r form report = chipsOf r (symbolsWith r form report)
 
--- The reserved bit is written as 0.
+-- The reserved bit is written as 0, and before the first symbol stands 0.
+abbrev pub plain : Form
+plain = formed 0 0
+
 abbrev pub octets : List ℕ → List ℕ
 octets report = octetsWith 0 report
 
 abbrev pub symbols : Radio → List ℕ → List ℕ
-symbols r report = symbolsWith r 0 report
+symbols r report = symbolsWith r plain report
 
 abbrev pub frame : Radio → List ℕ → List ℕ
-frame r report = frameWith r 0 report
+frame r report = frameWith r plain report

@@ -17,8 +17,8 @@ use Rattle.order.specs.declared.Hand.{Hand}
 use Rattle.order.specs.Received.{rawAfter, received, octetAt, octetsFrom}
 use Rattle.order.specs.Order.{values}
 use Rattle.order.specs.Taking.{keptIn}
-use Rattle.order.proofs.Raw.{lastOf, decode-below, octet-stays, octets-long, octets-each, per-positive, last-octet}
-use Rattle.order.proofs.Carried.{Carries, received-snoc, received-long}
+use Rattle.order.proofs.Raw.{decode-below, octet-stays, octets-long, octets-each, per-positive, last-octet}
+use Rattle.order.proofs.Carried.{Carries, valueBefore, received-snoc, received-long}
 
 -- what keeping the octet in hand does to octet k
 module _ (per : ℕ) (p : 0 < per) (h : Hand) (octets : List ℕ) (k : ℕ) where
@@ -77,11 +77,11 @@ module _ (r : Radio) (S : Sound r) where
       let m : suc (6 + k) * perOctet r ≤ length old = rw (← s, received-long r before) h in
       kept-other (perOctet r) (per-positive r S) g octets k (λ q. omega arith)
       ∙ G k l h
-      ∙ sym (ap (octetAt r (6 + k)) (received-snoc r before x) ∙ octet-stays r (6 + k) old (rawAfter r (lastOf 0 (values before)) (x .value) ∷ []) m))
+      ∙ sym (ap (octetAt r (6 + k)) (received-snoc r before x) ∙ octet-stays r (6 + k) old (rawAfter r (valueBefore r (values before) (x .value)) (x .value) ∷ []) m))
       (λ a.
       let h : length before < (7 + k) * perOctet r = leb-false _ _ a in
       let w : (7 + k) * perOctet r ≡ g .taken = omega arith in
-      let c = last-octet r S (received r (values (before ++ x ∷ []))) (6 + k) (decode-below r S 0 (values (before ++ x ∷ [])) (C .below))
+      let c = last-octet r S (received r (values (before ++ x ∷ []))) (6 + k) (decode-below r S _ (values (before ++ x ∷ [])) (C .below))
       (received-long r (before ++ x ∷ []) ∙ sym t ∙ sym w ∙ ap (λ (j : ℕ). j * perOctet r) s) in
       let v : g .octet ≡ octetAt r (6 + k) (received r (values (before ++ x ∷ []))) = C .octet ∙ c .0 in
       kept-same (perOctet r) (per-positive r S) g octets k w l o ∙ ap (λ (j : ℕ). j % 256) v ∙ mod-eq-of-lt (c .1))

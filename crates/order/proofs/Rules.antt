@@ -4,7 +4,7 @@ use mathlib.Core.Path.{_≡_, refl, sym, _∙_}
 use mathlib.Core.Bool.{Bool, true, false, not}
 use mathlib.Core.Logic.{_⊎_, inl, inr}
 use Prim.Native.Nat.{ℕ, suc, _+_, _*_, _%_, _≤_, _<_}
-use native.Mathlib.Nat.{mul-le-mul-right, mul-mod-left, le-add-right}
+use native.Mathlib.Nat.{suc-mul, mul-le-mul-right, mul-mod-left, le-add-right}
 use native.Mathlib.Omega.{arith}
 use lib.Dec.{eqb, leb, ltb}
 use borrow.Author.Tests.{lt-ltb, le-ltb, eq-eqb, ne-eqb, eqb-true, leb-true, leb-false, ltb-true, ltb-false, not-false}
@@ -15,7 +15,7 @@ use Rattle.codes.proofs.Tests.{by-test, not-both}
 use Rattle.frame.specs.Frame.{startOctet}
 use Rattle.order.specs.declared.Hand.{Hand}
 use Rattle.order.specs.Order.{both, ends, rules}
-use Rattle.order.specs.Taking.{stopped, lengthAfter, preambled, moved, onward, roomed}
+use Rattle.order.specs.Taking.{stopped, atFirst, lengthAfter, moved, onward, roomed}
 
 -- one test and another
 pub neither : (a b : Bool) → (a ≡ true → b ≡ false) → both a b ≡ false
@@ -26,6 +26,10 @@ second : (a b : Bool) → both a b ≡ false → a ≡ true → b ≡ false
 second true b e t = e
 second false b e t = not-both false t refl
 
+-- after the first symbol what is held stands
+pub past-first : (chained : Bool) (s held v : ℕ) → 0 < s → atFirst chained s held v ≡ held
+past-first chained s held v h = rw (neither chained (eqb s 0) (λ _. ne-eqb s 0 (λ e. omega arith)))
+
 -- where the code's sum is the definition's successor
 pub ends-is : (per k s m : ℕ) → m ≡ suc k * per → s + 1 ≡ m → ends per k s ≡ true
 ends-is per k s m e h = eq-eqb (suc s) (suc k * per) (omega arith)
@@ -33,39 +37,40 @@ ends-is per k s m e h = eq-eqb (suc s) (suc k * per) (omega arith)
 pub ends-not : (per k s m : ℕ) → m ≡ suc k * per → (s + 1 ≡ m → ⊥) → ends per k s ≡ false
 ends-not per k s m e h = ne-eqb (suc s) (suc k * per) (λ x. h (omega arith))
 
--- the preamble's rule is the first: where it refuses, so do the rules, and else they are those of a
--- raw symbol of 0
-module _ (per s raw : ℕ) where
-  pub preamble-rules : (preambled per s raw ≡ MORE → ⊥) → (start n : ℕ) → preambled per s raw ≡ rules per 127 s raw start n
-  unfolding rules
-  preamble-rules p start n =
-      by-test (both (ltb s (4 * per)) (not (eqb raw 0))) (λ t. rw t) (λ t. absurd (p (rw t)))
+-- the preamble's rule passes a raw symbol of 0, and any after the preamble
+passes : (per s raw : ℕ) → (s < 4 * per → raw ≡ 0) → both (ltb s (4 * per)) (not (eqb raw 0)) ≡ false
+passes per s raw p = neither (ltb s (4 * per)) (not (eqb raw 0)) (λ t. rw (eq-eqb raw 0 (p (ltb-true _ _ t))))
 
-  pub preamble-fair : preambled per s raw ≡ DONE → ⊥
-  preamble-fair e =
-      by-test (both (ltb s (4 * per)) (not (eqb raw 0)))
-      (λ t. let f : PREAMBLE ≡ DONE = rw t at e in omega (arith, f))
-      (λ t. let f : MORE ≡ DONE = rw t at e in omega (arith, f))
+-- of a symbol that no octet ends with only the preamble's rule speaks
+only-preamble : (per s : ℕ) → ((k : ℕ) → 4 ≤ k → ends per k s ≡ false) → (raw start n : ℕ)
+    → rules per 127 s raw start n ≡ pick (both (ltb s (4 * per)) (not (eqb raw 0))) PREAMBLE MORE
+unfolding rules
+only-preamble per s none raw start n = rw (none 4 (omega arith), none 5 (omega arith), none (5 + n) (omega arith))
 
-  pub rules-passed : preambled per s raw ≡ MORE → (start n : ℕ) → rules per 127 s 0 start n ≡ rules per 127 s raw start n
-  unfolding rules
-  rules-passed p start n =
-      by-test (both (ltb s (4 * per)) (not (eqb raw 0)))
-      (λ t. let f : PREAMBLE ≡ MORE = rw t at p in absurd (omega (arith, f)))
-      (λ t. rw (t, neither (ltb s (4 * per)) false (λ _. refl)))
+-- a symbol of the preamble is one
+pub preamble-rules : (per s : ℕ) → s < 4 * per → (raw start n : ℕ) → rules per 127 s raw start n ≡ pick (eqb raw 0) MORE PREAMBLE
+preamble-rules per s h raw start n =
+    only-preamble per s before-start raw start n ∙ rw (lt-ltb s (4 * per) h) (by-test (eqb raw 0) (λ e. rw e) (λ e. rw e))
+  where
+    before-start : (k : ℕ) → 4 ≤ k → ends per k s ≡ false
+    before-start k l = ends-not per k s (suc k * per) refl (λ e. omega (arith, suc-mul k per, mul-le-mul-right per l))
 
--- a symbol that isn't an octet's last ends no octet
+-- and so is one that isn't an octet's last
 module _ (per s : ℕ) (i : (s + 1) % per ≡ 0 → ⊥) where
-  ends-none : (k : ℕ) → ends per k s ≡ false
-  ends-none k = ends-not per k s (suc k * per) refl (λ e. i (rw e (mul-mod-left (suc k) per)))
+  ends-none : (k : ℕ) → 4 ≤ k → ends per k s ≡ false
+  ends-none k l = ends-not per k s (suc k * per) refl (λ e. i (rw e (mul-mod-left (suc k) per)))
 
-  -- so only the preamble's rule speaks of it, and it brings no length
-  pub inside-rules : (raw start n : ℕ) → preambled per s raw ≡ MORE → MORE ≡ rules per 127 s raw start n
-  unfolding rules
-  inside-rules raw start n p = sym p ∙ rw (ends-none 4, ends-none 5, ends-none (5 + n))
+  -- where the preamble's rule passes it, more is wanted
+  pub inside-rules : (raw start n : ℕ) → (s < 4 * per → raw ≡ 0) → MORE ≡ rules per 127 s raw start n
+  inside-rules raw start n p = sym (only-preamble per s ends-none raw start n ∙ rw (passes per s raw p))
 
   pub inside-length : (n octet : ℕ) → n ≡ lengthAfter per s n octet
-  inside-length n octet = rw (ends-none 5)
+  inside-length n octet = rw (ends-none 5 (omega arith))
+
+-- where it passes one, the rules are those of a raw symbol of 0
+pub rules-passed : (per s raw start n : ℕ) → (s < 4 * per → raw ≡ 0) → rules per 127 s 0 start n ≡ rules per 127 s raw start n
+unfolding rules
+rules-passed per s raw start n p = rw (passes per s raw p, passes per s 0 (λ _. refl))
 
 -- the n that a length octet brings is at most 127
 pub length-few : (per s n octet : ℕ) → ends per 5 s ≡ true → lengthAfter per s n octet ≤ 127
@@ -118,9 +123,9 @@ both-true false b e = not-both false e refl
 
 -- The reader's test of room, after the rules with room for every report, is the rules with
 -- its room.
-module _ (per room s raw o n : ℕ) (y : Symbol) (h : Hand) (l : h .length ≤ room) (m : ends per 5 s ≡ false → n ≤ room) (q : ends per 5 s ≡ true → n ≤ 127) where
+module _ (per room s raw o n p : ℕ) (y : Symbol) (h : Hand) (l : h .length ≤ room) (m : ends per 5 s ≡ false → n ≤ room) (q : ends per 5 s ≡ true → n ≤ 127) where
   abbrev next : ℕ → Hand
-  next x = onward x (moved h x n y o) (stopped x h)
+  next x = onward x (moved h x n y o p) (stopped x h)
 
   -- a refusal keeps n
   kept : (x : ℕ) → roomed room h (stopped x h) ≡ stopped x h
@@ -159,7 +164,7 @@ module _ (per room s raw start n : ℕ) where
   unfolding rules
   clear-rules C =
       rw (
-        neither (ltb s (4 * per)) (not (eqb raw 0)) (λ t. rw (eq-eqb raw 0 (C .preamble (ltb-true _ _ t)))),
+        passes per s raw (C .preamble),
         neither (ends per 4 s) (not (eqb start startOctet)) (λ t. rw (eq-eqb start startOctet (C .started (eqb-true _ _ t)))),
         neither (ends per 5 s) (ltb room n) (λ t. le-ltb room n (C .fits (eqb-true _ _ t))),
         last-test,

@@ -19,14 +19,14 @@ use Rattle.codes.proofs.Tests.{by-test}
 use Rattle.codes.proofs.Unique.{some-words, closeness-order, of-symbol, of-done, symbol-numbers}
 use Rattle.frame.specs.Frame.{perOctet}
 use Rattle.order.specs.declared.Hand.{Hand}
-use Rattle.order.specs.Received.{received}
+use Rattle.order.specs.Received.{polarityOf, received}
 use Rattle.order.specs.Order.{Answer, done, ends, rules, values, repaired, smallestGap, verdict, reportIn, concluded, taking}
 use Rattle.order.specs.Order as order
-use Rattle.order.specs.Taking.{begun, stopped, rawFrom, shifted, lengthAfter, moved, onward, advanced, roomed, Complete}
+use Rattle.order.specs.Taking.{begun, stopped, shifted, lengthAfter, moved, onward, rawNext, polarityNext, advanced, roomed, Complete}
 use Rattle.order.proofs.Raw.{per-positive}
 use Rattle.order.proofs.Rules.{Clear, length-few, rules-clear, rules-last, rules-before, rules-room}
 use Rattle.order.proofs.Steps.{goes, stops}
-use Rattle.order.proofs.Carried.{Carries, verdict-is, carries-more}
+use Rattle.order.proofs.Carried.{Carries, polarity-low, verdict-is, carries-more}
 
 -- the hand wants more: it is before the end of its frame, whose report has room; so its numbers
 -- are small
@@ -62,6 +62,7 @@ module _ (r : Radio) (room : ℕ) (before : List Symbol) (x : Symbol) (g : Hand)
     pub all : Complete r room g
     pub same : (next : Answer) → taking r room before x next ≡ done (suc (length before))
         (reportIn r (received r (values (before ++ x ∷ [])))) (repaired (before ++ x ∷ [])) (smallestGap (before ++ x ∷ []))
+        (polarityOf r (values (before ++ x ∷ [])))
 
   -- refused
   pub record Off : Type 0 where
@@ -79,11 +80,11 @@ pub room-for-any : (r : Radio) (h : Hand) (x : Symbol) → h .length ≤ 127
     ≡ pick (eqb (x .number) DONE) (advanced r h x) (stopped (x .number) h)
 unfolding advanced
 room-for-any r h x f =
-    let raw = rawFrom r (h .last) (x .value) in
+    let raw = rawNext r h x in
     let octet = shifted r (h .octet) raw in
     by-test (eqb (x .number) DONE)
     (λ a. rw a (rules-room (perOctet r) 127 (h .taken) raw octet
-    (lengthAfter (perOctet r) (h .taken) (h .length) octet) x h f (λ e. rw e f)
+    (lengthAfter (perOctet r) (h .taken) (h .length) octet) (polarityNext r h x) x h f (λ e. rw e f)
     (length-few (perOctet r) (h .taken) (h .length) octet)))
     (λ a. rw (a, le-ltb 127 (h .length) f))
 
@@ -133,7 +134,7 @@ module _ (r : Radio) (S : Sound r) (small : Small r) (room : ℕ) (before : List
     d = x .distance
 
     abbrev octet : ℕ
-    octet = shifted r (h .octet) (rawFrom r (h .last) v)
+    octet = shifted r (h .octet) (rawNext r h x)
 
     abbrev n : ℕ
     n = lengthAfter (perOctet r) (h .taken) (h .length) octet
@@ -142,18 +143,18 @@ module _ (r : Radio) (S : Sound r) (small : Small r) (room : ℕ) (before : List
     found = verdict r room (length before) (received r (values (before ++ x ∷ [])))
 
     abbrev code : ℕ → ℕ
-    code m = rules (perOctet r) m (h .taken) (rawFrom r (h .last) v) octet n
+    code m = rules (perOctet r) m (h .taken) (rawNext r h x) octet n
 
     -- the hand that the code makes is moved or stopped by the reading order's number
-    found-hand : roomed room h (advanced r h x) ≡ onward found (moved h found n x octet) (stopped found h)
+    found-hand : roomed room h (advanced r h x) ≡ onward found (moved h found n x octet (polarityNext r h x)) (stopped found h)
     unfolding advanced
     found-hand =
-        rules-room (perOctet r) room (h .taken) (rawFrom r (h .last) v) octet n x h (O .fits) (λ e. rw e (O .fits))
+        rules-room (perOctet r) room (h .taken) (rawNext r h x) octet n (polarityNext r h x) x h (O .fits) (λ e. rw e (O .fits))
         (length-few (perOctet r) (h .taken) (h .length) octet)
-        ∙ ap (λ (y : ℕ). onward y (moved h y n x octet) (stopped y h)) (verdict-is r S before h C x (X .value) room)
+        ∙ ap (λ (y : ℕ). onward y (moved h y n x octet (polarityNext r h x)) (stopped y h)) (verdict-is r S before h C x (X .value) room)
 
     -- n has room, on the last symbol of the length octet by the rules, else as before
-    n-fits : Clear (perOctet r) room (h .taken) (rawFrom r (h .last) v) octet n → (n ≤ room) × (n ≤ 127)
+    n-fits : Clear (perOctet r) room (h .taken) (rawNext r h x) octet n → (n ≤ room) × (n ≤ 127)
     n-fits p =
         by-test (ends (perOctet r) 5 (h .taken))
         (λ e. (p .fits (eqb-true _ _ e), length-few (perOctet r) (h .taken) (h .length) octet e))
@@ -178,7 +179,7 @@ module _ (r : Radio) (S : Sound r) (small : Small r) (room : ℕ) (before : List
     low-more : (h .count + d) % 2 ^ 32 ≤ r .limit * ((h .taken + 1) % 2 ^ 32)
     low-more = rw (taken-more, count-more) (omega (arith, O .low, X .distance, mul-suc (r .limit) (h .taken)))
 
-    carried : (y : ℕ) → Carries r (before ++ x ∷ []) (moved h y n x octet)
+    carried : (y : ℕ) → Carries r (before ++ x ∷ []) (moved h y n x octet (polarityNext r h x))
     carried y =
         carries-more r S before h C x (X .value) (omega (arith, early, C .taken)) (rw (← C .count) count-small)
         (X .next) (omega (arith, X .short, small .short)) y
@@ -186,16 +187,16 @@ module _ (r : Radio) (S : Sound r) (small : Small r) (room : ℕ) (before : List
     code-is : code room ≡ found
     code-is = verdict-is r S before h C x (X .value) room
 
-    on : found ≡ MORE → On r room before x (moved h found n x octet)
+    on : found ≡ MORE → On r room before x (moved h found n x octet (polarityNext r h x))
     unfolding taking concluded
     on f =
-        let p = n-fits (rules-clear (perOctet r) room (h .taken) (rawFrom r (h .last) v) octet n MORE (inl refl) (code-is ∙ f)) in
+        let p = n-fits (rules-clear (perOctet r) room (h .taken) (rawNext r h x) octet n MORE (inl refl) (code-is ∙ f)) in
         record {
           carries = carried found;
           goes =
               record {
                 number = f;
-                under = rw taken-more (omega (arith, reached, rules-before (perOctet r) room (h .taken) (rawFrom r (h .last) v) octet n (code-is ∙ f)));
+                under = rw taken-more (omega (arith, reached, rules-before (perOctet r) room (h .taken) (rawNext r h x) octet n (code-is ∙ f)));
                 fits = p .0;
                 few = p .1;
                 low = low-more;
@@ -203,19 +204,20 @@ module _ (r : Radio) (S : Sound r) (small : Small r) (room : ℕ) (before : List
           same = λ next. rw (eq-eqb (x .number) DONE (X .number), eq-eqb found MORE f);
         }
 
-    over : found ≡ DONE → Over r room before x (moved h found n x octet)
+    over : found ≡ DONE → Over r room before x (moved h found n x octet (polarityNext r h x))
     unfolding taking concluded
     over f =
-        let p = n-fits (rules-clear (perOctet r) room (h .taken) (rawFrom r (h .last) v) octet n DONE (inr refl) (code-is ∙ f)) in
+        let p = n-fits (rules-clear (perOctet r) room (h .taken) (rawNext r h x) octet n DONE (inr refl) (code-is ∙ f)) in
         record {
           number = f;
           carries = carried found;
           all =
               record {
-                total = rw taken-more (rules-last (perOctet r) room (h .taken) (rawFrom r (h .last) v) octet n (code-is ∙ f));
+                total = rw taken-more (rules-last (perOctet r) room (h .taken) (rawNext r h x) octet n (code-is ∙ f));
                 fits = p .0;
                 few = p .1;
                 low = low-more;
+                start = rw (carried found .polarity) (polarity-low r S (values (before ++ x ∷ [])) (carried found .below));
               };
           same = λ next. rw (eq-eqb (x .number) DONE (X .number), f);
         }
@@ -228,13 +230,13 @@ module _ (r : Radio) (S : Sound r) (small : Small r) (room : ℕ) (before : List
     value-turned g e =
         by-test (eqb found MORE)
         (λ a. let f = eqb-true found MORE a in
-        inl (rw (e, found-hand, goes found (moved h found n x octet) (stopped found h) (inl f)) (on f)))
+        inl (rw (e, found-hand, goes found (moved h found n x octet (polarityNext r h x)) (stopped found h) (inl f)) (on f)))
         (λ a. by-test (eqb found DONE)
         (λ b. let f = eqb-true found DONE b in
-        inr (inl (rw (e, found-hand, goes found (moved h found n x octet) (stopped found h) (inr f)) (over f))))
+        inr (inl (rw (e, found-hand, goes found (moved h found n x octet (polarityNext r h x)) (stopped found h) (inr f)) (over f))))
         (λ b. let p = eqb-false found MORE a in
         let q = eqb-false found DONE b in
-        inr (inr (rw (e, found-hand, stops found (moved h found n x octet) (stopped found h) p q) (off p q)))))
+        inr (inr (rw (e, found-hand, stops found (moved h found n x octet (polarityNext r h x)) (stopped found h) p q) (off p q)))))
 
   -- a symbol that is refused ends the reading
   refused-turned : (x : Symbol) → (x .number ≡ MORE → ⊥) → (x .number ≡ DONE → ⊥)

@@ -12,13 +12,13 @@ use Rattle.codes.specs.Radio.{Radio}
 use Rattle.codes.specs.Symbol.{least, symbolOf, gapOf}
 use Rattle.codes.specs.declared.Symbol.{Symbol}
 use Rattle.frame.specs.Frame.{startOctet, perOctet}
-use Rattle.order.specs.Received.{received, octetAt, octetsFrom}
+use Rattle.order.specs.Received.{polarityOf, received, octetAt, octetsFrom}
 
 -- refused with a number at a place; or done at a place, with the report, the number of chips
--- repaired and the smallest gap
+-- repaired, the smallest gap and the polarity
 pub data Answer : Type 0 where
   refused : ℕ → ℕ → Answer
-  done : ℕ → List ℕ → ℕ → ℕ → Answer
+  done : ℕ → List ℕ → ℕ → ℕ → ℕ → Answer
 
 -- one test and another
 abbrev pub both : Bool → Bool → Bool
@@ -81,11 +81,14 @@ verdict r room s bs = rules (perOctet r) room s (getD bs s 0) (octetAt r 4 bs) (
 abbrev pub reportIn : Radio → List ℕ → List ℕ
 reportIn r bs = octetsFrom r 6 (lengthIn r bs) bs
 
--- what number x means after the symbols `read`, of which the last is in hand: the next one, or
--- the end
+-- what the symbols `read`, up to symbol s, come to where the reading has succeeded
+abbrev pub succeeded : Radio → ℕ → List Symbol → Answer
+succeeded r s read =
+    done (suc s) (reportIn r (received r (values read))) (repaired read) (smallestGap read) (polarityOf r (values read))
+
+-- what number x means after them, of which the last is in hand: the next one, or the end
 unfoldable pub concluded : Radio → ℕ → List Symbol → ℕ → Answer → Answer
-concluded r s read x next =
-    pick (eqb x MORE) next (pick (eqb x DONE) (done (suc s) (reportIn r (received r (values read))) (repaired read) (smallestGap read)) (refused x s))
+concluded r s read x next = pick (eqb x MORE) next (pick (eqb x DONE) (succeeded r s read) (refused x s))
 
 -- The symbol x in hand, after those before it; `next` is the reading of the symbols after it. The
 -- first thing found wrong ends the reading, at the number of the symbol in hand: what its chips say

@@ -2,7 +2,7 @@
 -- radios"), for any radio.
 use Prim.Native.Nat.{ℕ, zero, suc, _+_, _*_, _%_, _^_}
 use mathlib.Core.List.{List, [], _∷_}
-use lib.ListN.{take, drop}
+use lib.ListN.{getD, take, drop}
 use Rattle.codes.specs.Chips.{pick}
 use Rattle.codes.specs.Radio.{Radio}
 use Rattle.frame.specs.Frame.{perOctet}
@@ -17,9 +17,18 @@ unfoldable pub decode : Radio → ℕ → List ℕ → List ℕ
 decode r last [] = []
 decode r last (v ∷ vs) = rawAfter r last v ∷ decode r v vs
 
--- again starting from 0
+-- In a radio with a chain symbol 0 settles the polarity of the frame: the chain starts from the
+-- value that it reads as. The other radios have one polarity, which is 0.
+abbrev pub chainStart : Radio → ℕ → ℕ
+chainStart r first = pick (r .chained) first 0
+
+-- so the polarity of values is by the first of them
+abbrev pub polarityOf : Radio → List ℕ → ℕ
+polarityOf r vs = chainStart r (getD vs 0 0)
+
+-- and their raw symbols are after it
 abbrev pub received : Radio → List ℕ → List ℕ
-received r vs = decode r 0 vs
+received r vs = decode r (polarityOf r vs) vs
 
 -- the number with these digits, the lowest first
 unfoldable pub valueOf : ℕ → List ℕ → ℕ

@@ -4,7 +4,7 @@
 -- or wrap, and no sum overflows. The stepping receiver's push names `followed` and `keptAt`: of a
 -- forged record that passes its test they are all that is said.
 use mathlib.Core.Path.{_≡_}
-use mathlib.Core.Bool.{Bool, false, not}
+use mathlib.Core.Bool.{Bool, false}
 use Prim.Native.Nat.{ℕ, _+_, _-_, _*_, _/_, _%_, _^_, _≤_}
 use mathlib.Core.List.{List}
 use lib.ListN.{set}
@@ -16,16 +16,31 @@ use Rattle.codes.specs.Symbol.{lesser, NOGAP}
 use Rattle.codes.specs.declared.Symbol.{Symbol}
 use Rattle.frame.specs.Frame.{perOctet}
 use Rattle.order.specs.declared.Hand.{Hand}
+use Rattle.order.specs.Received.{chainStart}
 use Rattle.order.specs.Order.{both, ends, rules}
 
 -- before the first symbol
 abbrev pub begun : Hand
-begun = record { number = MORE; taken = 0; length = 0; count = 0; last = 0; octet = 0; gap = NOGAP }
+begun = record { number = MORE; taken = 0; length = 0; count = 0; last = 0; octet = 0; gap = NOGAP; polarity = 0 }
 
 -- ended with a number, all else as it was
 abbrev pub stopped : ℕ → Hand → Hand
 stopped x h =
-    record { number = x; taken = h .taken; length = h .length; count = h .count; last = h .last; octet = h .octet; gap = h .gap }
+    record {
+      number = x;
+      taken = h .taken;
+      length = h .length;
+      count = h .count;
+      last = h .last;
+      octet = h .octet;
+      gap = h .gap;
+      polarity = h .polarity;
+    }
+
+-- With a chain the first symbol settles the polarity, from which the chain starts: at that symbol
+-- its value stands for what is held.
+abbrev pub atFirst : Bool → ℕ → ℕ → ℕ → ℕ
+atFirst chained s held v = pick (both chained (eqb s 0)) v held
 
 -- the raw symbol of a value, after a last one; of the numbers of a radio's row, and of a radio
 abbrev pub rawBy : Bool → ℕ → ℕ → ℕ → ℕ
@@ -45,17 +60,13 @@ shifted r octet raw = shiftedBy (2 ^ r .bits) octet raw
 abbrev pub lengthAfter : ℕ → ℕ → ℕ → ℕ → ℕ
 lengthAfter per s n octet = pick (ends per 5 s) (octet % 128) n
 
--- rule 4, the only one for a symbol that isn't an octet's last
-abbrev pub preambled : ℕ → ℕ → ℕ → ℕ
-preambled per s raw = pick (both (ltb s (4 * per)) (not (eqb raw 0))) PREAMBLE MORE
-
 -- a symbol's gap, of numbers of 32 bits that wrap
 abbrev pub gapAt : Symbol → ℕ
 gapAt x = (x .next + 2 ^ 32 - x .distance % 2 ^ 32) % 2 ^ 32
 
--- the symbol x more, with a number, n and the octet in hand
-abbrev pub moved : Hand → ℕ → ℕ → Symbol → ℕ → Hand
-moved h number n x octet =
+-- the symbol x more, with a number, n, the octet in hand and the polarity
+abbrev pub moved : Hand → ℕ → ℕ → Symbol → ℕ → ℕ → Hand
+moved h number n x octet polarity =
     record {
       number = number;
       taken = (h .taken + 1) % 2 ^ 32;
@@ -64,6 +75,7 @@ moved h number n x octet =
       last = x .value;
       octet = octet;
       gap = lesser (gapAt x) (h .gap);
+      polarity = polarity;
     }
 
 -- the first where the number is no refusal, 13 or 0, else the second
@@ -71,19 +83,27 @@ abbrev pub onward : {A : Type 0} → ℕ → A → A → A
 onward x a b = pick (eqb x MORE) a (pick (eqb x DONE) a b)
 
 -- moved or stopped, by the rules with room for every report
-abbrev pub byRules : ℕ → Hand → ℕ → ℕ → ℕ → Symbol → Hand
-byRules per h raw octet n x =
-    onward (rules per 127 (h .taken) raw octet n) (moved h (rules per 127 (h .taken) raw octet n) n x octet)
+abbrev pub byRules : ℕ → Hand → ℕ → ℕ → ℕ → Symbol → ℕ → Hand
+byRules per h raw octet n x polarity =
+    onward (rules per 127 (h .taken) raw octet n) (moved h (rules per 127 (h .taken) raw octet n) n x octet polarity)
     (stopped (rules per 127 (h .taken) raw octet n) h)
 
 -- the same, over the raw symbol alone
-abbrev pub byRaw : Radio → Hand → ℕ → Symbol → Hand
-byRaw r h raw x =
-    byRules (perOctet r) h raw (shifted r (h .octet) raw) (lengthAfter (perOctet r) (h .taken) (h .length) (shifted r (h .octet) raw)) x
+abbrev pub byRaw : Radio → Hand → ℕ → Symbol → ℕ → Hand
+byRaw r h raw x polarity =
+    byRules (perOctet r) h raw (shifted r (h .octet) raw)
+    (lengthAfter (perOctet r) (h .taken) (h .length) (shifted r (h .octet) raw)) x polarity
+
+-- the raw symbol of one more, and the polarity with it
+abbrev pub rawNext : Radio → Hand → Symbol → ℕ
+rawNext r h x = rawFrom r (atFirst (r .chained) (h .taken) (h .last) (x .value)) (x .value)
+
+abbrev pub polarityNext : Radio → Hand → Symbol → ℕ
+polarityNext r h x = atFirst (r .chained) (h .taken) (h .polarity) (x .value)
 
 -- a symbol taken
 unfoldable pub advanced : Radio → Hand → Symbol → Hand
-advanced r h x = byRaw r h (rawFrom r (h .last) (x .value)) x
+advanced r h x = byRaw r h (rawNext r h x) x (polarityNext r h x)
 
 -- what follows a match
 unfoldable pub followed : ℕ → Hand → Symbol → Hand
@@ -115,10 +135,11 @@ keptIn per h octets =
 unfoldable pub keptAt : ℕ → Hand → List ℕ → List ℕ
 keptAt mode h octets = pick (known mode) (onward (h .number) (keptIn (perOctet (radioOf mode)) h octets) octets) octets
 
--- all symbols of the hand's frame are taken, its report has room, and no more chips were repaired
--- than the limit times the symbols taken
+-- all symbols of the hand's frame are taken, its report has room, no more chips were repaired than
+-- the limit times the symbols taken, and its polarity is one that the radio has
 pub record Complete (r : Radio) (room : ℕ) (h : Hand) : Type 0 where
   pub total : h .taken ≡ (6 + h .length) * perOctet r
   pub fits : h .length ≤ room
   pub few : h .length ≤ 127
   pub low : h .count ≤ r .limit * h .taken
+  pub start : chainStart r (h .polarity % 2) ≡ h .polarity

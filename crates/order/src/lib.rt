@@ -5,7 +5,7 @@
 
 // What is carried from symbol to symbol: 13 while more is wanted, else 0 or the refusal; symbols
 // taken; n once it is read, 0 before; chips repaired; the last symbol's value; the octet in hand;
-// the smallest gap.
+// the smallest gap; the polarity.
 pub struct Hand {
     pub number: u32,
     pub taken: u32,
@@ -14,4 +14,5 @@ pub struct Hand {
     pub last: u32,
     pub octet: u32,
     pub gap: u32,
+    pub polarity: u32,
 }

@@ -26,7 +26,7 @@ refusals = NOROOM ∷ RUNOUT ∷ NOCHIP ∷ LOST ∷ PREAMBLE ∷ BADSTART ∷ [
 -- an answer is done, or refuses with one of these
 abbrev pub Fair : Answer → Type 0
 Fair (refused x place) = among x refusals ≡ true
-Fair (done place report count gap) = Unit {0}
+Fair (done place report count gap polarity) = Unit {0}
 
 -- a symbol that isn't read
 symbol-fair : (r : Radio) (w : List ℕ) → (symbolOf r w .number ≡ DONE → ⊥) → among (symbolOf r w .number) refusals ≡ true
@@ -46,24 +46,28 @@ rules-fair per room s raw start n =
     P : ℕ → Type 0
     P z = (z ≡ MORE → ⊥) → (z ≡ DONE → ⊥) → among z refusals ≡ true
 
+-- what the rules say of a symbol after those before it
+abbrev pub found : Radio → ℕ → List Symbol → Symbol → ℕ
+found r room before x = verdict r room (length before) (received r (values (before ++ x ∷ [])))
+
 -- What is true of each way that a reading can end is true of every reading: no chips left, a symbol
 -- that isn't read, a rule that refuses, done.
 module _ (r : Radio) (room : ℕ) (P : Answer → Type 0) (out : (s : ℕ) → P (refused RUNOUT s))
     (unread : (s : ℕ) (w : List ℕ) → (symbolOf r w .number ≡ DONE → ⊥) → P (refused (symbolOf r w .number) s))
-    (refusing : (s raw start n : ℕ) → (rules (perOctet r) room s raw start n ≡ MORE → ⊥) → (rules (perOctet r) room s raw start n ≡ DONE → ⊥)
-    → P (refused (rules (perOctet r) room s raw start n) s))
-    (well : (place : ℕ) (report : List ℕ) (count gap : ℕ) → P (done place report count gap)) where
+    (refusing : (before : List Symbol) (x : Symbol) → (found r room before x ≡ MORE → ⊥) → (found r room before x ≡ DONE → ⊥)
+    → P (refused (found r room before x) (length before)))
+    (well : (place : ℕ) (report : List ℕ) (count gap polarity : ℕ) → P (done place report count gap polarity)) where
   -- a symbol in hand, where what follows it is so
   taking-ways : (before : List Symbol) (w : List ℕ) (next : Answer) → P next → P (taking r room before (symbolOf r w) next)
   unfolding taking concluded
   taking-ways before w next f =
       by-pick P (eqb (symbolOf r w .number) DONE) _ _
       (λ _. by-pick P (eqb x MORE) _ _ (λ _. f)
-      (λ m. by-pick P (eqb x DONE) _ _ (λ _. well _ _ _ _) (λ d. refusing (length before) _ _ _ (eqb-false x MORE m) (eqb-false x DONE d))))
+      (λ m. by-pick P (eqb x DONE) _ _ (λ _. well _ _ _ _ _) (λ d. refusing before (symbolOf r w) (eqb-false x MORE m) (eqb-false x DONE d))))
       (λ n. unread (length before) w (eqb-false (symbolOf r w .number) DONE n))
     where
       x : ℕ
-      x = verdict r room (length before) (received r (values (before ++ symbolOf r w ∷ [])))
+      x = found r room before (symbolOf r w)
 
   from-ways : (before : List Symbol) (ws : List (List ℕ)) → P (readingFrom r room before ws)
   unfolding readingFrom
@@ -77,7 +81,8 @@ module _ (r : Radio) (room : ℕ) (P : Answer → Type 0) (out : (s : ℕ) → P
 -- the reading of a whole buffer
 pub answer-fair : (r : Radio) (room : ℕ) (chips : List ℕ) → Fair (reading r room chips)
 answer-fair r room =
-    reading-ways r room Fair (λ s. refl) (λ s w. symbol-fair r w) (λ s raw start n. rules-fair (perOctet r) room s raw start n) (λ place report count gap. tt)
+    reading-ways r room Fair (λ s. refl) (λ s w. symbol-fair r w) (λ before x. rules-fair (perOctet r) room _ _ _ _)
+    (λ place report count gap polarity. tt)
 
 -- done is none of these numbers
 pub done-unfair : (x : ℕ) → x ≡ DONE → among x refusals ≡ true → ⊥
@@ -86,7 +91,7 @@ done-unfair x z f = not-both false (rw z at f) refl
 -- an answer of the reader, whatever the mode, is done or refuses with another number
 abbrev pub Told : Answer → Type 0
 Told (refused x place) = x ≡ DONE → ⊥
-Told (done place report count gap) = Unit {0}
+Told (done place report count gap polarity) = Unit {0}
 
 pub answer-told : (mode room : ℕ) (chips : List ℕ) → Told (answerAt mode room chips)
 unfolding answerAt
@@ -95,4 +100,4 @@ answer-told mode room chips =
   where
     go : (a : Answer) → Fair a → Told a
     go (refused x place) f = λ z. done-unfair x z f
-    go (done place report count gap) f = tt
+    go (done place report count gap polarity) f = tt

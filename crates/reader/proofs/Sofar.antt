@@ -61,7 +61,7 @@ module _ (h : Hand) (octets : List ℕ) where
   unfolding handed
   handed-refused m d = rw (ne-eqb (h .number) MORE m, ne-eqb (h .number) DONE d)
 
-  pub handed-done : h .number ≡ DONE → handed h octets ≡ done (h .taken) (take (h .length) octets) (h .count) (h .gap)
+  pub handed-done : h .number ≡ DONE → handed h octets ≡ done (h .taken) (take (h .length) octets) (h .count) (h .gap) (h .polarity)
   unfolding handed
   handed-done e = rw (ne-eqb (h .number) MORE (λ m. omega arith), eq-eqb (h .number) DONE e)
 
@@ -145,13 +145,14 @@ module _ (r : Radio) (S : Sound r) (room : ℕ) (ws : List (List ℕ)) (octets :
           ∙ ap (λ (j : ℕ). octetsFrom r 6 j bits) n in
           record {
             is = step ∙ o .same (rest r ws room (suc (h .taken)))
-                ∙ done-same (sym (t ∙ a)) (sym s) (sym (o .carries .count)) (sym (o .carries .gap (omega (arith, a)))) ∙ sym (handed-done g kept (o .number));
+                ∙ done-same (sym (t ∙ a)) (sym s) (sym (o .carries .count)) (sym (o .carries .gap (omega (arith, a)))) (sym (o .carries .polarity))
+                ∙ sym (handed-done g kept (o .number));
             well = λ d. o .all;
             long = long-kept;
           }
         where
-          done-same : {p q : ℕ} {a b : List ℕ} {c d e f : ℕ} → p ≡ q → a ≡ b → c ≡ d → e ≡ f → done p a c e ≡ done q b d f
-          done-same u v w x = rw (u, v, w, x)
+          done-same : {p q : ℕ} {a b : List ℕ} {c d e f g h : ℕ} → p ≡ q → a ≡ b → c ≡ d → e ≡ f → g ≡ h → done p a c e g ≡ done q b d f h
+          done-same u v w x y = rw (u, v, w, x, y)
 
       off : Off r room before x g → Tells r room answer kept g
       off o =

@@ -46,15 +46,16 @@ pub stored-none : (octets buffer : List ℕ) → length octets ≡ 127 → store
 stored-none octets buffer l = stored 0 octets buffer (omega arith) l (omega arith)
 
 -- and a report is stored whole
-pub stored-done : (place n count gap : ℕ) (octets buffer : List ℕ) → n ≤ 127 → length octets ≡ 127 → n ≤ length buffer
-    → outcome (reported place n count gap) (storedIn n octets buffer) ≡ answered (done place (take n octets) count gap) buffer
+pub stored-done : (place n count gap polarity : ℕ) (octets buffer : List ℕ) → n ≤ 127 → length octets ≡ 127 → n ≤ length buffer
+    → outcome (reported place n count gap polarity) (storedIn n octets buffer) ≡ answered (done place (take n octets) count gap polarity) buffer
 unfolding told left
-stored-done place n count gap octets buffer f l b =
+stored-done place n count gap polarity octets buffer f l b =
     ap₂ outcome (rw (length-take-le n octets (omega arith))) (stored n octets buffer f l b)
 
 -- what a hand tells, and the reading order's answer with the octets gathered: a refusal, or done
 handed-ways : (h : Hand) (octets : List ℕ) (P : Reading → Answer → Type 0) → ((x s : ℕ) → P (told (refused x s)) (refused x s))
-    → (h .number ≡ DONE → P (reported (h .taken) (h .length) (h .count) (h .gap)) (done (h .taken) (take (h .length) octets) (h .count) (h .gap)))
+    → (h .number ≡ DONE → P (reported (h .taken) (h .length) (h .count) (h .gap) (h .polarity))
+    (done (h .taken) (take (h .length) octets) (h .count) (h .gap) (h .polarity)))
     → P (toldBy h) (handed h octets)
 unfolding toldBy handed
 handed-ways h octets P n d =
@@ -74,4 +75,4 @@ module _ (mode : ℕ) (chips buffer : List ℕ) where
       rw (s, e, k, T .is)
       (handed-ways h octets (λ t a. outcome t (storedIn (t .n) octets buffer) ≡ answered a buffer)
       (λ x p. ap (outcome (told (refused x p))) (stored-none octets buffer (T .long)))
-      (λ d. stored-done (h .taken) (h .length) (h .count) (h .gap) octets buffer (T .well d .few) (T .long) (T .well d .fits)))
+      (λ d. stored-done (h .taken) (h .length) (h .count) (h .gap) (h .polarity) octets buffer (T .well d .few) (T .long) (T .well d .fits)))

@@ -10,21 +10,22 @@ use Rattle.reader.specs.declared.Reading.{Reading}
 use Rattle.order.specs.Order.{Answer, refused, done, reading}
 
 -- what is given back of a report of n octets
-abbrev pub reported : ℕ → ℕ → ℕ → ℕ → Reading
-reported place n count gap = record { number = DONE; place = place; n = n; count = count; gap = gap }
+abbrev pub reported : ℕ → ℕ → ℕ → ℕ → ℕ → Reading
+reported place n count gap polarity =
+    record { number = DONE; place = place; n = n; count = count; gap = gap; polarity = polarity }
 
 -- Done: place is the number of symbols in the frame, n is the length, the count is the number of
--- chips repaired, the gap is the smallest of the frame's symbols. Refused: place as in the reading
--- order, n, count and gap 0.
+-- chips repaired, the gap is the smallest of the frame's symbols, the polarity is the frame's.
+-- Refused: place as in the reading order, n, count, gap and polarity 0.
 unfoldable pub told : Answer → Reading
-told (refused x place) = record { number = x; place = place; n = 0; count = 0; gap = 0 }
-told (done place report count gap) = reported place (length report) count gap
+told (refused x place) = record { number = x; place = place; n = 0; count = 0; gap = 0; polarity = 0 }
+told (done place report count gap polarity) = reported place (length report) count gap polarity
 
 -- Done: the first n bytes of the report buffer are the report, later ones keep their values.
 -- Refused: report buffer unchanged.
 unfoldable pub left : Answer → List ℕ → List ℕ
 left (refused x place) buffer = buffer
-left (done place report count gap) buffer = report ++ drop (length report) buffer
+left (done place report count gap polarity) buffer = report ++ drop (length report) buffer
 
 -- The reader tests 1 before any symbol, place 0.
 unfoldable pub answerAt : ℕ → ℕ → List ℕ → Answer

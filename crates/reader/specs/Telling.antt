@@ -25,14 +25,15 @@ storedIn n octets buffer = pick (ltb 127 n) buffer (pick (ltb (length buffer) n)
 unfoldable pub toldBy : Hand → Reading
 toldBy h =
     pick (eqb (h .number) MORE) (told (refused RUNOUT (h .taken)))
-    (pick (eqb (h .number) DONE) (reported (h .taken) (h .length) (h .count) (h .gap))
+    (pick (eqb (h .number) DONE) (reported (h .taken) (h .length) (h .count) (h .gap) (h .polarity))
     (told (refused (h .number) (h .taken))))
 
 -- and as the reading order's answer, with the octets gathered
 unfoldable pub handed : Hand → List ℕ → Answer
 handed h octets =
     pick (eqb (h .number) MORE) (refused RUNOUT (h .taken))
-    (pick (eqb (h .number) DONE) (done (h .taken) (take (h .length) octets) (h .count) (h .gap)) (refused (h .number) (h .taken)))
+    (pick (eqb (h .number) DONE) (done (h .taken) (take (h .length) octets) (h .count) (h .gap) (h .polarity))
+    (refused (h .number) (h .taken)))
 
 -- the hand and the octets gathered tell the answer
 pub record Tells (r : Radio) (room : ℕ) (answer : Answer) (octets : List ℕ) (h : Hand) : Type 0 where

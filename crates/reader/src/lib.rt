@@ -14,8 +14,8 @@ ghost use Rattle.reader.specs.Read.{told, readOf};
 ghost use Rattle.reader.specs.Telling.{storedIn, toldBy, Tells};
 
 // What the reader gives back: 0, the number of symbols in the frame, the report's length, the
-// number of chips repaired and the smallest gap of the frame's symbols; or a refusal, the number of
-// the symbol where it stands, and zeros.
+// number of chips repaired, the smallest gap of the frame's symbols and the frame's polarity; or a
+// refusal, the number of the symbol where it stands, and zeros.
 #[repr(C)]
 pub struct Reading {
     pub number: u32,
@@ -23,6 +23,7 @@ pub struct Reading {
     pub n: u32,
     pub count: u32,
     pub gap: u32,
+    pub polarity: u32,
 }
 
 // Reads the frame of the mode's radio that the chips begin with, and stores its report. The octets
@@ -157,10 +158,11 @@ fn tell(hand: order::Hand) -> Reading
         n: hand.length,
         count: hand.count,
         gap: hand.gap,
+        polarity: hand.polarity,
     }
 }
 
-// What a refusal gives back: n, count and gap are 0.
+// What a refusal gives back: n, count, gap and polarity are 0.
 pub fn refusal(number: u32, place: u32) -> Reading
     ensures { λ r. ⌜ r ≡ told (refused number place) ⌝ }
 {
@@ -170,6 +172,7 @@ pub fn refusal(number: u32, place: u32) -> Reading
         n: 0,
         count: 0,
         gap: 0,
+        polarity: 0,
     }
 }
 

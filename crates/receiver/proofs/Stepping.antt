@@ -6,7 +6,7 @@ use mathlib.Core.Bool.{true, false}
 use mathlib.Core.List.{List, []}
 use Prim.Native.Nat.{ℕ, suc, _<_}
 use native.Mathlib.Omega.{arith}
-use lib.ListN.{length, getD}
+use lib.ListN.{length, getD, take}
 use lib.Dec.{eqb}
 use borrow.Author.Tests.{eq-eqb, ne-eqb, eqb-true, eqb-false}
 use Rattle.codes.specs.Numbers.{DONE, BADMODE, RUNOUT, MORE}
@@ -14,7 +14,7 @@ use Rattle.codes.specs.Radio.{known, radioOf}
 use Rattle.codes.specs.Symbol.{symbolOf}
 use Rattle.codes.proofs.Tests.{by-test}
 use Rattle.codes.proofs.Facts.{sound}
-use Rattle.order.specs.Order.{Answer, refused, readingFrom}
+use Rattle.order.specs.Order.{Answer, refused, done, readingFrom}
 use Rattle.order.specs.Taking.{followed, keptAt}
 use Rattle.reader.specs.Telling.{Tells}
 use Rattle.reader.proofs.Sofar.{Sofar, starts, out, handed-open, handed-refused, handed-done}
@@ -56,7 +56,8 @@ module _ (mode : ℕ) (k : known mode ≡ true) (ws : List (List ℕ)) where
             (λ d.
             let e = eqb-true (c .ended) DONE d in
             rw (complete-honest c (rw own k) e (rw own (T .well e)), ne-eqb (c .ended) MORE more, d)
-            (ap (roomFor room) (sym (T .is ∙ handed-done (handOf c) (c .octets) e))))
+            (ap (roomFor room) (ap (done (c .taken) (take (c .length) (c .octets)) (c .count) (c .gap)) (rw own (T .well e .start))
+            ∙ sym (T .is ∙ handed-done (handOf c) (c .octets) e))))
             (λ d.
             let e = eqb-false (c .ended) DONE d in
             sym (takes-refused c room (sym (forged-refused c more e)) more e) ∙ ap (roomFor room) (sym (T .is ∙ handed-refused (handOf c) (c .octets) more e)));

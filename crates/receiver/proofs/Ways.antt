@@ -3,7 +3,7 @@ use mathlib.Core.Path.{_≡_, refl, sym, ap, ap₂, _∙_}
 use mathlib.Core.Bool.{Bool, true, false, not}
 use mathlib.Core.List.{List}
 use mathlib.Core.Logic.{_⊎_, inl, inr, ⊎-elim}
-use Prim.Native.Nat.{ℕ, _+_, _*_, _≤_, _<_}
+use Prim.Native.Nat.{ℕ, _+_, _*_, _%_, _≤_, _<_}
 use native.Mathlib.Omega.{arith}
 use lib.Dec.{eqb, leb, ltb}
 use lib.ListN.{length, take}
@@ -18,13 +18,13 @@ use Rattle.codes.specs.Phy.{phyOf, noPhy, phyAt}
 use Rattle.codes.specs.declared.Phy.{Phy}
 use Rattle.codes.specs.declared.Symbol.{Symbol}
 use Rattle.codes.proofs.Tests.{by-test, not-both}
-use Rattle.codes.proofs.Modes.{row-test}
+use Rattle.codes.proofs.Modes.{row-test, phy-known}
 use Rattle.frame.specs.Frame.{perOctet}
 use Rattle.frame.specs.Outcome.{outcome}
 use Rattle.codes.proofs.Unique.{symbol-numbers}
 use Rattle.order.specs.declared.Hand.{Hand}
 use Rattle.reader.specs.declared.Reading.{Reading}
-use Rattle.order.specs.Order.{Answer, refused, done}
+use Rattle.order.specs.Order.{Answer, refused}
 use Rattle.reader.specs.Read.{reported, told, left}
 use Rattle.order.specs.Taking.{followed, wholeAt, keptAt}
 use Rattle.order.proofs.Steps.{kept-partial}
@@ -48,6 +48,7 @@ use Rattle.receiver.specs.Record.{
   endedWith,
   finishOf,
   roomFor,
+  holding,
   takes,
   takeOf,
 }
@@ -190,8 +191,8 @@ module _ (c : Receiver) where
 -- that it doesn't rest on what `endedWith` says.
 pub ended-keeps : (x : ℕ) (c : Receiver) → (endedWith x c .ended ≡ x) × (endedWith x c .mode ≡ c .mode) × (endedWith x c .taken ≡ c .taken)
     × (endedWith x c .length ≡ c .length) × (endedWith x c .count ≡ c .count) × (endedWith x c .last ≡ c .last) × (endedWith x c .octet ≡ c .octet)
-    × (endedWith x c .gap ≡ c .gap) × (endedWith x c .octets ≡ c .octets)
-ended-keeps x c = (refl, refl, refl, refl, refl, refl, refl, refl, refl)
+    × (endedWith x c .gap ≡ c .gap) × (endedWith x c .polarity ≡ c .polarity) × (endedWith x c .octets ≡ c .octets)
+ended-keeps x c = (refl, refl, refl, refl, refl, refl, refl, refl, refl, refl)
 
 -- the ways of `tell`
 module _ (c : Receiver) (room : ℕ) where
@@ -213,7 +214,7 @@ module _ (c : Receiver) (room : ℕ) where
       report-long : length (take (c .length) (c .octets)) ≡ c .length
       report-long = length-take-le (c .length) (c .octets) (omega (arith, passed-length c f (inr d)))
 
-      takes-well : takes c room ≡ roomFor room (done (c .taken) (take (c .length) (c .octets)) (c .count) (c .gap))
+      takes-well : takes c room ≡ roomFor room (holding c)
       unfolding takes
       takes-well = rw (f, d)
 
@@ -221,14 +222,18 @@ module _ (c : Receiver) (room : ℕ) where
       unfolding roomFor
       takes-short s = sym (takes-well ∙ rw (report-long, lt-ltb room (c .length) s))
 
-      pub takes-done : c .length ≤ room → done (c .taken) (take (c .length) (c .octets)) (c .count) (c .gap) ≡ takes c room
+      pub takes-done : c .length ≤ room → holding c ≡ takes c room
       unfolding roomFor
       takes-done s = sym (takes-well ∙ rw (report-long, le-ltb room (c .length) s))
 
-      pub tells-done : c .length ≤ room → reported (c .taken) (c .length) (c .count) (c .gap) ≡ told (takes c room)
+      pub tells-done : c .length ≤ room → (p : Phy) → p ≡ phyAt (c .mode) → (polarity : ℕ) → polarity ≡ pick (p .chained) (c .polarity % 2) 0
+          → reported (c .taken) (c .length) (c .count) (c .gap) polarity ≡ told (takes c room)
       unfolding told
-      tells-done s =
-          ap (λ (i : ℕ). reported (c .taken) i (c .count) (c .gap)) (sym report-long) ∙ ap told (takes-done s)
+      tells-done s p e polarity q =
+          let row : p ≡ phyOf (radioOf (c .mode)) = e ∙ phy-known (c .mode) (passed-known c f (inr d)) in
+          ap₂ (λ (i z : ℕ). reported (c .taken) i (c .count) (c .gap) z) (sym report-long)
+          (q ∙ ap (λ (y : Phy). pick (y .chained) (c .polarity % 2) 0) row)
+          ∙ ap told (takes-done s)
 
 -- the way of `take`: nothing is stored but a report, for which there is room
 module _ (c : Receiver) (buffer : List ℕ) (l : length (c .octets) ≡ 127) where
@@ -239,7 +244,7 @@ module _ (c : Receiver) (buffer : List ℕ) (l : length (c .octets) ≡ 127) whe
   unfolding told left
   stores-none x place = stored-none (c .octets) buffer l
 
-  stores-report : c .length ≤ 127 → c .length ≤ length buffer → Stores (done (c .taken) (take (c .length) (c .octets)) (c .count) (c .gap))
+  stores-report : c .length ≤ 127 → c .length ≤ length buffer → Stores (holding c)
   unfolding told left
   stores-report m s =
       ap (λ (i : ℕ). storedIn i (c .octets) buffer) (length-take-le (c .length) (c .octets) (omega arith)) ∙ stored (c .length) (c .octets) buffer m l s

@@ -3,7 +3,7 @@
 -- (`Hand`) and the octets of the report. How a symbol changes those numbers is the reader's own
 -- step (`followed`, `keptAt`): of every record that these calls make it is shown to be the reading
 -- order; of another one that passes the test there is nothing else to say.
-use Prim.Native.Nat.{ℕ, _+_, _*_}
+use Prim.Native.Nat.{ℕ, _+_, _*_, _%_}
 use mathlib.Core.Bool.{Bool, true, not}
 use mathlib.Core.List.{List}
 use lib.ListN.{length, take, replicate}
@@ -17,6 +17,7 @@ use Rattle.frame.specs.Outcome.{Outcome}
 use Rattle.frame.specs.Frame.{perOctet}
 use Rattle.order.specs.declared.Hand.{Hand}
 use Rattle.reader.specs.declared.Reading.{Reading}
+use Rattle.order.specs.Received.{chainStart}
 use Rattle.order.specs.Order.{Answer, refused, done, both}
 use Rattle.reader.specs.Read.{answered}
 use Rattle.order.specs.Taking.{followed, keptAt}
@@ -33,7 +34,18 @@ step x c = record { number = x; receiver = c }
 -- a number above every gap
 abbrev pub fresh : ℕ → ℕ → Receiver
 fresh mode x =
-    record { mode = mode; ended = x; taken = 0; length = 0; count = 0; last = 0; octet = 0; gap = NOGAP; octets = replicate 127 0 }
+    record {
+      mode = mode;
+      ended = x;
+      taken = 0;
+      length = 0;
+      count = 0;
+      last = 0;
+      octet = 0;
+      gap = NOGAP;
+      polarity = 0;
+      octets = replicate 127 0;
+    }
 
 -- Start gives a record for a mode and 13. A bad mode gives a record already ended with 1, place 0.
 unfoldable pub startOf : ℕ → Step
@@ -70,7 +82,8 @@ forged c =
 
 -- the numbers that the reader carries too
 abbrev pub handOf : Receiver → Hand
-handOf c = record { number = c .ended; taken = c .taken; length = c .length; count = c .count; last = c .last; octet = c .octet; gap = c .gap }
+handOf c =
+    record { number = c .ended; taken = c .taken; length = c .length; count = c .count; last = c .last; octet = c .octet; gap = c .gap; polarity = c .polarity }
 
 -- the record of a mode with these numbers and octets
 abbrev pub held : ℕ → Hand → List ℕ → Receiver
@@ -84,6 +97,7 @@ held mode h octets =
       last = h .last;
       octet = h .octet;
       gap = h .gap;
+      polarity = h .polarity;
       octets = octets;
     }
 
@@ -118,6 +132,7 @@ endedWith x c =
       last = c .last;
       octet = c .octet;
       gap = c .gap;
+      polarity = c .polarity;
       octets = c .octets;
     }
 
@@ -130,19 +145,28 @@ finishOf c =
 -- ---- take
 
 -- 3 where the lent buffer is shorter than n, with the frame's place; otherwise 0 with place, n,
--- count, gap and the report.
+-- count, gap, polarity and the report.
 unfoldable pub roomFor : ℕ → Answer → Answer
 roomFor room (refused x place) = refused x place
-roomFor room (done place report count gap) = pick (ltb room (length report)) (refused NOROOM place) (done place report count gap)
+roomFor room (done place report count gap polarity) =
+    pick (ltb room (length report)) (refused NOROOM place) (done place report count gap polarity)
+
+-- the polarity as it is told: of what is held 0 or 1 in a radio with a chain, else 0
+abbrev pub toldPolarity : Receiver → ℕ
+toldPolarity c = chainStart (radioOf (c .mode)) (c .polarity % 2)
+
+-- what a record that ended well holds
+abbrev pub holding : Receiver → Answer
+holding c = done (c .taken) (take (c .length) (c .octets)) (c .count) (c .gap) (toldPolarity c)
 
 -- Take, on an open record: 12, with place, n and count 0. On one ended by a refusal: that number
 -- and place, n and count 0. On one ended well: the report, where there is room, with the gap as it
--- is held. The gap of all else is 0.
+-- is held. Gap and polarity of all else are 0.
 unfoldable pub takes : Receiver → ℕ → Answer
 takes c room =
     pick (forged c) (refused FORGED 0)
     (pick (isOpen c) (refused NOTENDED 0)
-    (pick (endedWell c) (roomFor room (done (c .taken) (take (c .length) (c .octets)) (c .count) (c .gap)))
+    (pick (endedWell c) (roomFor room (holding c))
     (refused (c .ended) (c .taken))))
 
 -- what take gives back, and the lent buffer at exit, unchanged on anything but done

@@ -4,6 +4,8 @@
 // room `matching`), and its symbol is taken by the reader's own functions, so the laws of the
 // reader's loop carry over (proofs/Stepping.antt).
 ghost use mathlib.Core.Path.{_≡_};
+ghost use Prim.Native.Nat.{_%_};
+ghost use Rattle.codes.specs.Chips.{pick};
 ghost use Rattle.frame.specs.Outcome.{outcome};
 ghost use Rattle.reader.specs.Read.{told};
 ghost use Rattle.receiver.specs.Record.{step, fresh, startOf, forged, handOf, held, tookSymbol, pushOf, finishOf, takes, takeOf};
@@ -27,6 +29,8 @@ pub struct Receiver {
     pub octet: u32,
     // the smallest gap of the symbols so far
     pub gap: u32,
+    // the polarity: in mode 0 what symbol 0 read as
+    pub polarity: u32,
     // the report's octets so far
     pub octets: [u8; 127],
 }
@@ -156,6 +160,7 @@ impl Receiver {
                 last: hand.last,
                 octet: hand.octet,
                 gap: hand.gap,
+                polarity: hand.polarity,
                 octets,
             },
         }
@@ -173,6 +178,7 @@ impl Receiver {
         receiver.last = hand.last;
         receiver.octet = hand.octet;
         receiver.gap = hand.gap;
+        receiver.polarity = hand.polarity;
         Step {
             number: hand.number,
             receiver,
@@ -191,6 +197,7 @@ impl Receiver {
             last: self.last,
             octet: self.octet,
             gap: self.gap,
+            polarity: self.polarity,
         }
     }
 
@@ -216,8 +223,16 @@ impl Receiver {
             n: self.length,
             count: self.count,
             gap: self.gap,
+            polarity: told_polarity(codes::phy_of(self.mode).chained, self.polarity),
         }
     }
+}
+
+// The polarity that is told of one held: 0 or 1 in a radio that has two, else 0.
+fn told_polarity(chained: bool, held: u32) -> u32
+    ensures { λ r. ⌜ r ≡ pick chained (held % 2) 0 ⌝ }
+{
+    if chained { held % 2 } else { 0 }
 }
 
 // All 0 but the mode, the number and the smallest gap, for which stands a number above every gap.
@@ -235,6 +250,7 @@ fn begin(mode: u32, number: u32) -> Step
             last: 0,
             octet: 0,
             gap: codes::NOGAP,
+            polarity: 0,
             octets: [0u8; 127],
         },
     }

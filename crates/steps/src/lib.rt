@@ -5,8 +5,10 @@ ghost use mathlib.Core.Path.{_≡_};
 ghost use mathlib.Core.Bool.{true};
 ghost use Prim.Native.Nat.{_≤_, _<_, _%_};
 ghost use lib.Dec.{eqb};
+ghost use Rattle.codes.specs.Numbers.{BADMODE};
+ghost use Rattle.codes.specs.Chips.{pick};
 ghost use Rattle.order.specs.Order.{ends, rules};
-ghost use Rattle.order.specs.Taking.{begun, stopped, rawBy, shiftedBy, lengthAfter, preambled, moved, onward, followed, wholeAt, keptAt};
+ghost use Rattle.order.specs.Taking.{begun, stopped, atFirst, rawBy, shiftedBy, lengthAfter, moved, onward, followed, wholeAt, keptAt};
 
 // Before the first symbol.
 pub fn begin() -> order::Hand
@@ -20,6 +22,7 @@ pub fn begin() -> order::Hand
         last: 0,
         octet: 0,
         gap: codes::NOGAP,
+        polarity: 0,
     }
 }
 
@@ -35,6 +38,7 @@ pub fn stop(number: u32, hand: order::Hand) -> order::Hand
         last: hand.last,
         octet: hand.octet,
         gap: hand.gap,
+        polarity: hand.polarity,
     }
 }
 
@@ -46,26 +50,50 @@ pub fn follow(mode: u32, hand: order::Hand, symbol: codes::Symbol) -> order::Han
     ensures { λ r. ⌜ r ≡ followed mode hand symbol ⌝ }
 {
     let phy = codes::phy_of(mode);
-    if phy.size == 0 {
-        return stop(codes::BADMODE, hand);
+    let refusal = refusal_of(phy.size, symbol.number);
+    if refusal != codes::DONE {
+        return stop(refusal, hand);
     }
     let per = phy.per;
-    if symbol.number != codes::DONE {
-        return stop(symbol.number, hand);
-    }
     let values = phy.values as u32;
-    let raw = raw_of(phy.chained, values, hand.last, symbol.value);
-    let octet = shift(values, hand.octet, raw);
-    let first = preamble_rule(per, hand.taken, raw);
-    if first != codes::MORE {
-        return stop(first, hand);
+    let mut last = hand.last;
+    let mut polarity = hand.polarity;
+    if (hand.taken as usize) < 4 * per {
+        last = at_first(phy.chained, hand.taken, last, symbol.value);
+        polarity = at_first(phy.chained, hand.taken, polarity, symbol.value);
+        if raw_of(phy.chained, values, last, symbol.value) != 0 {
+            return stop(codes::PREAMBLE, hand);
+        }
     }
+    let raw = raw_of(phy.chained, values, last, symbol.value);
+    let octet = shift(values, hand.octet, raw);
     if !whole(per, hand.taken as usize + 1) {
-        return advance(hand, codes::MORE, hand.length, symbol, octet);
+        return advance(hand, codes::MORE, hand.length, symbol, octet, polarity);
     }
     let length = length_after(per, hand.taken, hand.length, octet);
     let number = octet_rules(per, hand.taken, octet, length);
-    advance(hand, number, length, symbol, octet)
+    advance(hand, number, length, symbol, octet, polarity)
+}
+
+// 1 where the mode has no radio, else the symbol's own number. One exit for both keeps `follow` so
+// small that the back end makes no call of it.
+fn refusal_of(size: usize, number: u32) -> u32
+    ensures { λ r. ⌜ r ≡ pick (eqb size 0) BADMODE number ⌝ }
+{
+    if size == 0 {
+        return codes::BADMODE;
+    }
+    number
+}
+
+// What is held, or at the first symbol of a chain its value.
+fn at_first(chained: bool, taken: u32, held: u32, value: u32) -> u32
+    ensures { λ r. ⌜ r ≡ atFirst chained taken held value ⌝ }
+{
+    if chained && taken == 0 {
+        return value;
+    }
+    held
 }
 
 // Whether so many symbols are whole octets.
@@ -83,8 +111,9 @@ fn advance(
     length: u32,
     symbol: codes::Symbol,
     octet: u32,
+    polarity: u32,
 ) -> order::Hand
-    ensures { λ r. ⌜ r ≡ onward number (moved hand number length symbol octet) (stopped number hand) ⌝ }
+    ensures { λ r. ⌜ r ≡ onward number (moved hand number length symbol octet polarity) (stopped number hand) ⌝ }
 {
     if number != codes::MORE && number != codes::DONE {
         return stop(number, hand);
@@ -101,6 +130,7 @@ fn advance(
         last: symbol.value,
         octet,
         gap,
+        polarity,
     }
 }
 
@@ -135,17 +165,6 @@ fn length_after(per: usize, taken: u32, length: u32, octet: u32) -> u32
     } else {
         length
     }
-}
-
-// Rule 4, the only one for a symbol that isn't an octet's last: 7, else 13.
-fn preamble_rule(per: usize, taken: u32, raw: u32) -> u32
-    requires { ⌜ per ≤ 8 ⌝ }
-    ensures { λ r. ⌜ r ≡ preambled per taken raw ⌝ }
-{
-    if (taken as usize) < 4 * per && raw != 0 {
-        return codes::PREAMBLE;
-    }
-    codes::MORE
 }
 
 // Rules 5 and 6 with room for every report, which are the rules of a raw symbol of 0: 8, then 0 on

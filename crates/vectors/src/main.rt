@@ -72,7 +72,7 @@ fn write_line(mode: u32, report: &[u8], octets: usize, chips: &mut [u8], room: u
 }
 
 // The first so many chips read with room for 127 octets: prints mode, chips, number, place,
-// n, count, gap.
+// n, count, gap, polarity.
 fn read_line(mode: u32, chips: &[u8], count: usize) {
     if chips.len() < count {
         return;
@@ -85,7 +85,8 @@ fn read_line(mode: u32, chips: &[u8], count: usize) {
     number(reading.place as u64, b' ');
     number(reading.n as u64, b' ');
     number(reading.count as u64, b' ');
-    number(reading.gap as u64, b'\n');
+    number(reading.gap as u64, b' ');
+    number(reading.polarity as u64, b'\n');
 }
 
 // A number, and the byte after it.

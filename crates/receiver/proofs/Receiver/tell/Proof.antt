@@ -10,9 +10,20 @@ use Rattle.receiver.proofs.Receiver.tell.Reads as reads
 use Rattle.receiver.proofs.Receiver.tell.Lts as lts
 use Rattle.receiver.proofs.Receiver.forged.Reads as forged-reads
 use Rattle.reader.proofs.refusal.Reads as refusal-reads
+use Rattle.codes.proofs.phy_of.Reads as phy-of-reads
+use Rattle.receiver.proofs.told_polarity.Reads as told-polarity-reads
 
 -- the record's array has its 127 elements
-long : (c : lts.Start (forged-reads.Asked, forged-reads.Learnt, refusal-reads.Asked, refusal-reads.Learnt) reads.Pre reads.Post)
+long : (c : lts.Start (
+  forged-reads.Asked,
+  forged-reads.Learnt,
+  refusal-reads.Asked,
+  refusal-reads.Learnt,
+  phy-of-reads.Asked,
+  phy-of-reads.Learnt,
+  told-polarity-reads.Asked,
+  told-polarity-reads.Learnt,
+) reads.Pre reads.Post)
     → length (c .args .self .octets) ≡ 127
 long c = search needs
 
@@ -61,11 +72,18 @@ returns-4 c =
     (sym (f .forged .ensures) ∙ c .before .before .before .before .before .before .before .if1 .left)
     (c .before .before .before .if3 .left) (long (f .before)) (c .before .if4 .taken))
 
+phy-of-requires : tie.Need-phy-of-requires
+phy-of-requires c κs = search needs
+
+told-polarity-requires : tie.Need-told-polarity-requires
+told-polarity-requires c κs = search needs
+
 returns-5 : tie.Need-returns-5
 returns-5 c =
-    let f = c .before .before .before .before .before .before .before in
-    tells-done (f .before .args .self) (f .before .args .room) (sym (f .forged .ensures) ∙ c .before .before .before .before .before .before .if1 .left)
-    (c .before .before .if3 .left) (long (f .before)) (c .if4 .left)
+    let e = c .before .before in
+    let f = e .before .before .before .before .before .before .before in
+    tells-done (f .before .args .self) (f .before .args .room) (sym (f .forged .ensures) ∙ e .before .before .before .before .before .before .if1 .left)
+    (e .before .before .if3 .left) (long (f .before)) (e .if4 .left) _ (c .before .phy-of .ensures) _ (c .told-polarity .ensures)
 
 pub tell-spec : {M : Type 1} → statement M
 tell-spec =
@@ -81,4 +99,6 @@ tell-spec =
     cast-if4
     refusal-requires-4
     returns-4
+    phy-of-requires
+    told-polarity-requires
     returns-5)
