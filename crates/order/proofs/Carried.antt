@@ -95,12 +95,12 @@ module _ (r : Radio) (h : Hand) (v : ℕ) where
   first-last : r .chained ≡ true → (vs : List ℕ) → h .taken ≡ length vs → h .last ≡ lastOf 0 vs
       → atFirst (r .chained) (h .taken) (h .last) v ≡ valueBefore r vs v
   first-last c [] t l = rw (c, t)
-  first-last c (u ∷ vs) t l = past-first (r .chained) (h .taken) (h .last) v (omega arith) ∙ l
+  first-last c (u ∷ vs) t l = past-first (r .chained) (h .taken) (h .last) v (λ _ e. omega arith) ∙ l
 
   first-polarity : (vs : List ℕ) → h .taken ≡ length vs → h .polarity ≡ polarityOf r vs
       → atFirst (r .chained) (h .taken) (h .polarity) v ≡ polarityOf r (vs ++ v ∷ [])
   first-polarity [] t p = by-test (r .chained) (λ c. rw (c, t)) (λ c. rw c (rw c at p))
-  first-polarity (u ∷ vs) t p = past-first (r .chained) (h .taken) (h .polarity) v (omega arith) ∙ p
+  first-polarity (u ∷ vs) t p = past-first (r .chained) (h .taken) (h .polarity) v (λ _ e. omega arith) ∙ p
 
 module _ (r : Radio) (S : Sound r) where
   -- the polarity of values is one that the radio has

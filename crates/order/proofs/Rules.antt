@@ -26,9 +26,9 @@ second : (a b : Bool) → both a b ≡ false → a ≡ true → b ≡ false
 second true b e t = e
 second false b e t = not-both false t refl
 
--- after the first symbol what is held stands
-pub past-first : (chained : Bool) (s held v : ℕ) → 0 < s → atFirst chained s held v ≡ held
-past-first chained s held v h = rw (neither chained (eqb s 0) (λ _. ne-eqb s 0 (λ e. omega arith)))
+-- but for the first symbol of a chain what is held stands
+pub past-first : (chained : Bool) (s held v : ℕ) → (chained ≡ true → s ≡ 0 → ⊥) → atFirst chained s held v ≡ held
+past-first chained s held v n = rw (neither chained (eqb s 0) (λ c. ne-eqb s 0 (n c)))
 
 -- where the code's sum is the definition's successor
 pub ends-is : (per k s m : ℕ) → m ≡ suc k * per → s + 1 ≡ m → ends per k s ≡ true

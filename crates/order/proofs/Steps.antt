@@ -12,15 +12,14 @@ use lib.Dec.{eqb, leb}
 use lib.Pow.{pow-pos}
 use borrow.Author.Tests.{lt-ltb, le-ltb, le-leb, lt-leb, eq-eqb, ne-eqb, eqb-true, eqb-false}
 use Rattle.codes.specs.Numbers.{DONE, BADMODE, PREAMBLE, MORE}
-use Rattle.codes.specs.Chips.{pick}
 use Rattle.codes.specs.Radio.{Radio, known, radioOf}
 use Rattle.codes.specs.declared.Symbol.{Symbol}
 use Rattle.codes.proofs.Tests.{by-test}
 use Rattle.codes.specs.declared.Phy.{Phy}
 use Rattle.codes.specs.Phy.{phyOf, phyAt}
-use Rattle.codes.proofs.Modes.{each-row, phy-known, phy-sizeless}
+use Rattle.codes.proofs.Modes.{each-row, phy-known}
 use Rattle.frame.specs.Frame.{perOctet}
-use Rattle.frame.proofs.Modes.{few-values, row-sized}
+use Rattle.frame.proofs.Modes.{few-values}
 use Rattle.order.specs.declared.Hand.{Hand}
 use Rattle.order.specs.Order.{rules}
 use Rattle.order.proofs.Rules.{past-first, inside-length, preamble-rules}
@@ -46,22 +45,28 @@ module _ (mode : ℕ) (k : known mode ≡ true) (p : Phy) (e : p ≡ phyAt mode)
   pub row-values : (0 < p .values) × (p .values ≤ 16)
   row-values = rw is-row (pow-pos (radioOf mode .bits), few-values mode)
 
--- What the code has before a symbol's raw one: the value before it and the polarity with it, as
--- they are at the first symbol of a chain; and in the preamble that raw symbol is 0.
-pub record Settled (chained : Bool) (values per : ℕ) (h : Hand) (x : Symbol) (last polarity : ℕ) : Type 0 where
-  pub before : last ≡ atFirst chained (h .taken) (h .last) (x .value)
+-- What the code has of a symbol that is read: its raw symbol, after what stands before it at the
+-- first symbol of a chain, and the polarity.
+pub record Settled (chained : Bool) (values : ℕ) (h : Hand) (x : Symbol) (raw polarity : ℕ) : Type 0 where
+  pub after : raw ≡ rawBy chained values (atFirst chained (h .taken) (h .last) (x .value)) (x .value)
   pub start : polarity ≡ atFirst chained (h .taken) (h .polarity) (x .value)
-  pub passed : h .taken < 4 * per → rawBy chained values last (x .value) ≡ 0
 
--- after the preamble both are as held
-pub as-held : (chained : Bool) (values per : ℕ) → 0 < per → (h : Hand) (x : Symbol) (last polarity : ℕ) → 4 * per ≤ h .taken
-    → last ≡ h .last → polarity ≡ h .polarity → Settled chained values per h x last polarity
-as-held chained values per some h x last polarity l el eq =
-    record {
-      before = el ∙ sym (past-first chained (h .taken) (h .last) (x .value) (omega arith));
-      start = eq ∙ sym (past-first chained (h .taken) (h .polarity) (x .value) (omega arith));
-      passed = λ u. absurd (omega arith);
-    }
+module _ (chained : Bool) (values : ℕ) (h : Hand) (x : Symbol) (raw polarity : ℕ) where
+  -- there the value stands before itself, so that the raw symbol is 0
+  pub at-start : chained ≡ true → h .taken ≡ 0 → raw ≡ 0 → polarity ≡ x .value → Settled chained values h x raw polarity
+  at-start c t er ep = record { after = rw (c, t) (er ∙ sym (twice (x .value % values))); start = rw (c, t) ep }
+    where
+      twice : (a : ℕ) → (a + a) % 2 ≡ 0
+      twice a = omega arith
+
+  -- and elsewhere what is held
+  pub as-held : (chained ≡ true → h .taken ≡ 0 → ⊥) → raw ≡ rawBy chained values (h .last) (x .value) → polarity ≡ h .polarity
+      → Settled chained values h x raw polarity
+  as-held n er ep =
+      record {
+        after = er ∙ ap (λ (y : ℕ). rawBy chained values y (x .value)) (sym (past-first chained (h .taken) (h .last) (x .value) n));
+        start = ep ∙ sym (past-first chained (h .taken) (h .polarity) (x .value) n);
+      }
 
 -- go on, or done
 pub goes : {A : Type 0} (x : ℕ) (a b : A) → (x ≡ MORE) ⊎ (x ≡ DONE) → onward x a b ≡ a
@@ -81,57 +86,35 @@ module _ (mode : ℕ) (h : Hand) (x : Symbol) where
   unfolding followed
   follow-no-radio k = rw k
 
-  -- 1 or the symbol's own number, where that is a refusal; where it is none, there is a radio
-  module _ (p : Phy) (e : p ≡ phyAt mode) (y : ℕ) (q : y ≡ pick (eqb (p .size) 0) BADMODE (x .number)) where
-    pub follow-refused : (y ≡ DONE → ⊥) → stopped y h ≡ followed mode h x
-    unfolding followed
-    follow-refused n =
-        by-test (eqb (p .size) 0)
-        (λ t. rw (q, t) (follow-no-radio (phy-sizeless mode p e (eqb-true (p .size) 0 t))))
-        (λ t.
-        let s : y ≡ x .number = q ∙ rw t in
-        rw (s, row-sized mode p e (eqb-false (p .size) 0 t) .0, ne-eqb (x .number) DONE (λ d. n (s ∙ d))))
-
-    pub follow-read : y ≡ DONE → (known mode ≡ true) × (p .per ≡ perOctet (radioOf mode)) × (x .number ≡ DONE)
-    follow-read d =
-        by-test (eqb (p .size) 0)
-        (λ t. absurd (omega (arith, d, rw t at q)))
-        (λ t. let k = row-sized mode p e (eqb-false (p .size) 0 t) in (k .0, k .1, sym (q ∙ rw t) ∙ d))
-
   module _ (k : known mode ≡ true) where
-    -- a symbol that is read is taken by the rules
-    by-the-rules : x .number ≡ DONE → (per raw octet n number p : ℕ) → per ≡ perOctet (radioOf mode) → raw ≡ rawNext (radioOf mode) h x
-        → octet ≡ shifted (radioOf mode) (h .octet) raw → n ≡ lengthAfter per (h .taken) (h .length) octet → number ≡ rules per 127 (h .taken) raw octet n
-        → p ≡ polarityNext (radioOf mode) h x → onward number (moved h number n x octet p) (stopped number h) ≡ followed mode h x
-    unfolding followed advanced
-    by-the-rules d per raw octet n number p ep er eo en ex eq = rw (k, eq-eqb (x .number) DONE d, eq, ex, en, eo, er, ep)
+    pub follow-refused : (x .number ≡ DONE → ⊥) → stopped (x .number) h ≡ followed mode h x
+    unfolding followed
+    follow-refused n = rw (k, ne-eqb (x .number) DONE n)
 
-    module _ (d : x .number ≡ DONE) (p : Phy) (e : p ≡ phyAt mode) (per : ℕ) (ep : per ≡ perOctet (radioOf mode)) where
-      -- the raw symbol that the code has, of the value that stands before it
-      row-next : (last raw : ℕ) → last ≡ atFirst (p .chained) (h .taken) (h .last) (x .value) → raw ≡ rawBy (p .chained) (p .values) last (x .value)
-          → raw ≡ rawNext (radioOf mode) h x
-      row-next last raw el er =
-          row-raw mode k p e raw last (x .value) er
-          ∙ ap (λ (y : ℕ). rawFrom (radioOf mode) y (x .value))
-          (el ∙ ap (λ (y : Phy). atFirst (y .chained) (h .taken) (h .last) (x .value)) (is-row mode k p e))
+    module _ (d : x .number ≡ DONE) (p : Phy) (e : p ≡ phyAt mode) (per : ℕ) (ep : per ≡ perOctet (radioOf mode)) (raw polarity : ℕ)
+        (S : Settled (p .chained) (p .values) h x raw polarity) where
+      raw-is : raw ≡ rawNext (radioOf mode) h x
+      raw-is =
+          row-raw mode k p e raw _ (x .value) (S .after)
+          ∙ ap (λ (y : Phy). rawFrom (radioOf mode) (atFirst (y .chained) (h .taken) (h .last) (x .value)) (x .value)) (is-row mode k p e)
 
-      -- 7, whatever the other rules say
-      pub follow-preamble : h .taken < 4 * per → (last raw : ℕ) → last ≡ atFirst (p .chained) (h .taken) (h .last) (x .value)
-          → raw ≡ rawBy (p .chained) (p .values) last (x .value) → (raw ≡ 0 → ⊥) → stopped PREAMBLE h ≡ followed mode h x
-      follow-preamble l last raw el er n =
-          let octet = shifted (radioOf mode) (h .octet) raw in
-          let long = lengthAfter per (h .taken) (h .length) octet in
-          by-the-rules d per raw octet long PREAMBLE (polarityNext (radioOf mode) h x) ep (row-next last raw el er) refl refl
-          (sym (preamble-rules per (h .taken) l raw octet long ∙ rw (ne-eqb raw 0 n))) refl
+      polarity-is : polarity ≡ polarityNext (radioOf mode) h x
+      polarity-is = S .start ∙ ap (λ (y : Phy). atFirst (y .chained) (h .taken) (h .polarity) (x .value)) (is-row mode k p e)
 
-      -- else moved or stopped by them
-      pub follow-on : (last polarity : ℕ) → Settled (p .chained) (p .values) per h x last polarity → (raw octet n number : ℕ)
-          → raw ≡ rawBy (p .chained) (p .values) last (x .value) → octet ≡ shiftedBy (p .values) (h .octet) raw
+      -- a symbol that is read is taken by the rules
+      pub follow-on : (octet n number : ℕ) → octet ≡ shiftedBy (p .values) (h .octet) raw
           → n ≡ lengthAfter per (h .taken) (h .length) octet → number ≡ rules per 127 (h .taken) raw octet n
           → onward number (moved h number n x octet polarity) (stopped number h) ≡ followed mode h x
-      follow-on last polarity Q raw octet n number er eo en ex =
-          by-the-rules d per raw octet n number polarity ep (row-next last raw (Q .before) er) (row-shifted mode k p e octet (h .octet) raw eo) en ex
-          (Q .start ∙ ap (λ (y : Phy). atFirst (y .chained) (h .taken) (h .polarity) (x .value)) (is-row mode k p e))
+      unfolding followed advanced
+      follow-on octet n number eo en ex =
+          rw (k, eq-eqb (x .number) DONE d, polarity-is, ex, en, row-shifted mode k p e octet (h .octet) raw eo, raw-is, ep)
+
+      -- and 7 is given whatever the rules after it say
+      pub follow-preamble : h .taken < 4 * per → (raw ≡ 0 → ⊥) → stopped PREAMBLE h ≡ followed mode h x
+      follow-preamble l n =
+          let octet = shiftedBy (p .values) (h .octet) raw in
+          let long = lengthAfter per (h .taken) (h .length) octet in
+          follow-on octet long PREAMBLE refl refl (sym (preamble-rules per (h .taken) l raw octet long ∙ rw (ne-eqb raw 0 n)))
 
 -- a hand that a symbol stops stays as it was, but for the number
 abbrev Stays : Hand → Hand → Type 0

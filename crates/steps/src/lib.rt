@@ -5,10 +5,8 @@ ghost use mathlib.Core.Path.{_≡_};
 ghost use mathlib.Core.Bool.{true};
 ghost use Prim.Native.Nat.{_≤_, _<_, _%_};
 ghost use lib.Dec.{eqb};
-ghost use Rattle.codes.specs.Numbers.{BADMODE};
-ghost use Rattle.codes.specs.Chips.{pick};
 ghost use Rattle.order.specs.Order.{ends, rules};
-ghost use Rattle.order.specs.Taking.{begun, stopped, atFirst, rawBy, shiftedBy, lengthAfter, moved, onward, followed, wholeAt, keptAt};
+ghost use Rattle.order.specs.Taking.{begun, stopped, rawBy, shiftedBy, lengthAfter, moved, onward, followed, wholeAt, keptAt};
 
 // Before the first symbol.
 pub fn begin() -> order::Hand
@@ -50,50 +48,34 @@ pub fn follow(mode: u32, hand: order::Hand, symbol: codes::Symbol) -> order::Han
     ensures { λ r. ⌜ r ≡ followed mode hand symbol ⌝ }
 {
     let phy = codes::phy_of(mode);
-    let refusal = refusal_of(phy.size, symbol.number);
-    if refusal != codes::DONE {
-        return stop(refusal, hand);
+    if phy.size == 0 {
+        return stop(codes::BADMODE, hand);
+    }
+    if symbol.number != codes::DONE {
+        return stop(symbol.number, hand);
     }
     let per = phy.per;
     let values = phy.values as u32;
-    let mut last = hand.last;
+    let mut raw = raw_of(phy.chained, values, hand.last, symbol.value);
     let mut polarity = hand.polarity;
     if (hand.taken as usize) < 4 * per {
-        last = at_first(phy.chained, hand.taken, last, symbol.value);
-        polarity = at_first(phy.chained, hand.taken, polarity, symbol.value);
-        if raw_of(phy.chained, values, last, symbol.value) != 0 {
+        // The first symbol of a chain settles the polarity, and that stands before it: raw it is 0.
+        if phy.chained && hand.taken == 0 {
+            raw = 0;
+            polarity = symbol.value;
+        }
+        if raw != 0 {
             return stop(codes::PREAMBLE, hand);
         }
     }
-    let raw = raw_of(phy.chained, values, last, symbol.value);
     let octet = shift(values, hand.octet, raw);
-    if !whole(per, hand.taken as usize + 1) {
-        return advance(hand, codes::MORE, hand.length, symbol, octet, polarity);
+    let mut number = codes::MORE;
+    let mut length = hand.length;
+    if whole(per, hand.taken as usize + 1) {
+        length = length_after(per, hand.taken, hand.length, octet);
+        number = octet_rules(per, hand.taken, octet, length);
     }
-    let length = length_after(per, hand.taken, hand.length, octet);
-    let number = octet_rules(per, hand.taken, octet, length);
     advance(hand, number, length, symbol, octet, polarity)
-}
-
-// 1 where the mode has no radio, else the symbol's own number. One exit for both keeps `follow` so
-// small that the back end makes no call of it.
-fn refusal_of(size: usize, number: u32) -> u32
-    ensures { λ r. ⌜ r ≡ pick (eqb size 0) BADMODE number ⌝ }
-{
-    if size == 0 {
-        return codes::BADMODE;
-    }
-    number
-}
-
-// What is held, or at the first symbol of a chain its value.
-fn at_first(chained: bool, taken: u32, held: u32, value: u32) -> u32
-    ensures { λ r. ⌜ r ≡ atFirst chained taken held value ⌝ }
-{
-    if chained && taken == 0 {
-        return value;
-    }
-    held
 }
 
 // Whether so many symbols are whole octets.
