@@ -55,11 +55,13 @@
  * Which way round: the polarity. Some front ends lock the wrong way round, and in mode 0 a whole
  * frame then comes with every chip inverted. It is read all the same: symbol 0 settles the
  * polarity, and a reading tells it, 1 where the frame came inverted and 0 where it didn't. A front
- * end that turns over within a frame is another matter: from there on every chip is inverted, and
- * that is one raw bit read as the other. In the preamble it is LERNAZHUP_PREAMBLE, at symbol 1 or
- * later; in the start octet LERNAZHUP_BADSTART; at the reserved bit of the length octet it makes no
- * difference; and elsewhere it is another length or another report, for the FCS to find. Modes 1
- * and 2 have one polarity, and tell 0; so does a refusal.
+ * end that turns over between two symbols of a frame is another matter: from there on every chip is
+ * inverted, and that is one raw bit read as the other. In the preamble it is LERNAZHUP_PREAMBLE, at
+ * symbol 1 or later; in the start octet LERNAZHUP_BADSTART; at the reserved bit of the length octet
+ * it makes no difference; and elsewhere it is another length or another report, for the FCS to
+ * find. Within a symbol it counts as before it where up to six of its chips are as sent, as behind
+ * it where nine or more are, and else the symbol is lost. Modes 1 and 2 have one polarity, and tell
+ * 0; so does a refusal.
  *
  * Who finds the frame: the caller. The first chip of a buffer is taken for the first chip of the
  * preamble, and no other beginning is looked for. In a stream, try one chip after the other as the
@@ -86,10 +88,11 @@
  * What stands below at lernazhup_write, _read, _match, _write_checked, _read_checked, _check, _fcs,
  * _fcs_bitwise, _start, _push, _finish and _take about answers, records and lent bytes is proved,
  * and so is what either profile refuses or finds for certain, what the gap is at least and as
- * written, and what the polarity is. Null pointers, the layout of the structs, the stack (under
- * 4 KiB a call), the lack of allocation and what is written in C are tested. How to search a stream
- * is advice: the example gateway runs it, and no theorem is about it. The library is for x86-64.
- * The rules on buffers are checked by nothing: they are yours to keep. */
+ * written, and what the polarity is. What comes of a front end that turns over within a frame, null
+ * pointers, the layout of the structs, the stack (under 4 KiB a call), the lack of allocation and
+ * what is written in C are tested. How to search a stream is advice: the example gateway runs it,
+ * and no theorem is about it. The library is for x86-64. The rules on buffers are checked by
+ * nothing: they are yours to keep. */
 #ifndef LERNAZHUP_H
 #define LERNAZHUP_H
 

@@ -82,28 +82,42 @@ static lernazhup_reading turned_at(uint32_t mode, size_t from, size_t length)
     return lernazhup_read_checked(mode, chips, length, back, sizeof back);
 }
 
-/* What comes of that in mode 0, at a symbol that isn't one of n's in the length octet. */
-static uint32_t number_turned(size_t symbol)
+/* What comes of that in mode 0, where the first symbol to be read as inverted isn't one of n's in
+ * the length octet. */
+static uint32_t number_turned(size_t symbol, size_t symbols)
 {
-    if (symbol == 0 || symbol == 47)
+    if (symbol == 0 || symbol == 47 || symbol == symbols)
         return LERNAZHUP_DONE;
     if (symbol < 40)
         return symbol < 32 ? LERNAZHUP_PREAMBLE : LERNAZHUP_BADSTART;
     return LERNAZHUP_BADCHECK;
 }
 
-static void polarities(uint32_t mode)
+/* From each chip on. A symbol with up to six chips as sent is read as inverted, one with nine or
+ * more as sent, and any other is lost. */
+static void turned_over(void)
 {
-    size_t size = LERNAZHUP_SYMBOL_CHIPS(mode), length = LERNAZHUP_FRAME_CHIPS(mode, 7), symbol;
-    for (symbol = 0; symbol * size < length; symbol++) {
-        lernazhup_reading reading = turned_at(mode, symbol * size, length);
-        if (mode > 0)
-            check("inverted in a mode with one polarity", reading.number, LERNAZHUP_LOST);
+    size_t length = LERNAZHUP_FRAME_CHIPS(0, 7), from;
+    for (from = 0; from < length; from++) {
+        size_t sent = from % 15, symbol = from / 15 + (sent > 8);
+        lernazhup_reading reading = turned_at(0, from, length);
+        if (sent == 7 || sent == 8)
+            check("inverted in the midst of a symbol", reading.number, LERNAZHUP_LOST);
         else if (symbol >= 40 && symbol < 47)
             check("another length is refused", reading.number != LERNAZHUP_DONE, 1);
         else
-            check("inverted from a symbol on", reading.number, number_turned(symbol));
-        check("its polarity", reading.polarity, mode == 0 && symbol == 0);
+            check("inverted from a chip on", reading.number, number_turned(symbol, length / 15));
+        check("its polarity", reading.polarity, from < 7);
+    }
+}
+
+static void one_polarity(uint32_t mode)
+{
+    size_t size = LERNAZHUP_SYMBOL_CHIPS(mode), length = LERNAZHUP_FRAME_CHIPS(mode, 7), from;
+    for (from = 0; from < length; from += size) {
+        lernazhup_reading reading = turned_at(mode, from, length);
+        check("inverted in a mode with one polarity", reading.number, LERNAZHUP_LOST);
+        check("its polarity", reading.polarity, 0);
     }
 }
 
@@ -155,7 +169,10 @@ int main(void)
         checked(mode);
         symbols(mode);
         gaps(mode);
-        polarities(mode);
+        if (mode == 0)
+            turned_over();
+        else
+            one_polarity(mode);
         lernazhup_write(mode, report, 5, chips, sizeof chips);
         kept(mode, LERNAZHUP_FRAME_CHIPS(mode, 5));
         kept(mode, LERNAZHUP_FRAME_CHIPS(mode, 5) - 1);

@@ -13,7 +13,7 @@ use lib.Seq.{getD-take}
 use lib.Dec.{eqb, leb}
 use borrow.Author.Tests.{eq-eqb, ne-eqb, eqb-true, eqb-false, le-ltb}
 use Rattle.codes.specs.Numbers.{DONE, RUNOUT, LOST, MORE}
-use Rattle.codes.specs.Chips.{pick, differ, distance, bad}
+use Rattle.codes.specs.Chips.{differ, distance, bad}
 use Rattle.codes.specs.Radio.{Radio, Sound, word, bpsk}
 use Rattle.codes.specs.Symbol.{least, nearest, nearestBut, symbolOf, gapOf}
 use Rattle.codes.specs.declared.Symbol.{Symbol}
@@ -45,11 +45,12 @@ use Rattle.order.specs.Order.{
 use Rattle.order.proofs.Raw.{size-pos}
 use Rattle.order.proofs.Windows.{whole-at, whole-sized}
 use Rattle.order.proofs.Carried.{values-snoc, values-long}
-use Rattle.reader.specs.Read.{told, left, answerAt, readOf}
+use Rattle.reader.specs.Read.{told, left, answerAt, answered, readOf}
 use Rattle.reader.proofs.Fair.{Told, answer-told}
-use Rattle.demands.specs.Words.{inverse}
+use Rattle.checked.specs.Profile.{checkOf, checkedAnswer, readCheckedOf}
+use Rattle.demands.specs.Words.{inverse, Opposite, turned, Alike}
 use Rattle.demands.proofs.Stands.{take-map}
-use Rattle.demands.proofs.TurnsOver.{Opposite, bpsk-opposite}
+use Rattle.demands.proofs.TurnsOver.{bpsk-opposite}
 
 -- ---- chips
 
@@ -105,11 +106,6 @@ repaired-flip (x ∷ xs) = ap (λ (n : ℕ). x .distance + n) (repaired-flip xs)
 gaps-flip : (xs : List Symbol) → map gapOf (map flip xs) ≡ map gapOf xs
 gaps-flip [] = refl
 gaps-flip (x ∷ xs) = ap (λ (l : List ℕ). gapOf x ∷ l) (gaps-flip xs)
-
--- an answer with the other polarity; a refusal as it is
-abbrev pub turned : Answer → Answer
-turned (refused x place) = refused x place
-turned (done place report count gap polarity) = done place report count gap (1 - polarity)
 
 module _ (r : Radio) (S : Sound r) (c : r .chained ≡ true) (o : Opposite r) where
   two : length (r .words) ≡ 2
@@ -270,27 +266,31 @@ module _ (r : Radio) (S : Sound r) (c : r .chained ≡ true) (o : Opposite r) wh
       ∙ ap (readingFrom r room []) (windows-inverse r chips 0 (length chips / r .size))
       ∙ from-turned room [] tt (whole r chips) (whole-good chips b)
 
--- what is told of an answer and of the one with the other polarity
-told-turned : (a : Answer) → Told a → (buffer : List ℕ)
-    → (told (turned a) .number ≡ told a .number) × (told (turned a) .place ≡ told a .place) × (told (turned a) .n ≡ told a .n)
-    × (told (turned a) .count ≡ told a .count) × (told (turned a) .gap ≡ told a .gap)
-    × (told (turned a) .polarity ≡ pick (eqb (told a .number) DONE) (1 - told a .polarity) 0) × (left (turned a) buffer ≡ left a buffer)
+-- so is what is told of them, by the plain reader and by the checked one
+told-turned : (a : Answer) → Told a → (buffer : List ℕ) → Alike (answered (turned a) buffer) (answered a buffer)
 unfolding told left
-told-turned (refused x place) f buffer = (refl, refl, refl, refl, refl, rw (ne-eqb x DONE f), refl)
-told-turned (done place report count gap polarity) f buffer = (refl, refl, refl, refl, refl, refl, refl)
+told-turned (refused x place) f buffer =
+    record { number = refl; place = refl; n = refl; count = refl; gap = refl; polarity = rw (ne-eqb x DONE f); buffer = refl }
+told-turned (done place report count gap polarity) f buffer =
+    record { number = refl; place = refl; n = refl; count = refl; gap = refl; polarity = refl; buffer = refl }
 
--- And so of the reader in mode 0: with every chip inverted it answers the same number, place, n,
--- count and gap, leaves the same report buffer, and where it is done its polarity is the other.
-pub reads-turned : (chips buffer : List ℕ) → bad chips ≡ false
-    → (readOf 0 (inverse chips) buffer .answer .number ≡ readOf 0 chips buffer .answer .number)
-    × (readOf 0 (inverse chips) buffer .answer .place ≡ readOf 0 chips buffer .answer .place)
-    × (readOf 0 (inverse chips) buffer .answer .n ≡ readOf 0 chips buffer .answer .n)
-    × (readOf 0 (inverse chips) buffer .answer .count ≡ readOf 0 chips buffer .answer .count)
-    × (readOf 0 (inverse chips) buffer .answer .gap ≡ readOf 0 chips buffer .answer .gap)
-    × (readOf 0 (inverse chips) buffer .answer .polarity
-    ≡ pick (eqb (readOf 0 chips buffer .answer .number) DONE) (1 - readOf 0 chips buffer .answer .polarity) 0)
-    × (readOf 0 (inverse chips) buffer .buffer ≡ readOf 0 chips buffer .buffer)
-unfolding answerAt
-reads-turned chips buffer b =
-    rw (reading-turned bpsk sound-bpsk refl bpsk-opposite (length buffer) chips b)
-    (told-turned (reading bpsk (length buffer) chips) (answer-told 0 (length buffer) chips) buffer)
+checked-turned : (a : Answer) → Told a → (buffer : List ℕ) → Alike (answered (checkedAnswer (turned a)) buffer) (answered (checkedAnswer a) buffer)
+unfolding checkedAnswer
+checked-turned (refused x place) f buffer = told-turned (refused x place) f buffer
+checked-turned (done place report count gap polarity) f buffer =
+    by-test (eqb (checkOf report) DONE)
+    (λ t. rw t (told-turned (done place report count gap polarity) tt buffer))
+    (λ t. rw t (told-turned (refused (checkOf report) place) (eqb-false (checkOf report) DONE t) buffer))
+
+module _ (chips buffer : List ℕ) (b : bad chips ≡ false) where
+  turned-over : answerAt 0 (length buffer) (inverse chips) ≡ turned (answerAt 0 (length buffer) chips)
+  unfolding answerAt
+  turned-over = reading-turned bpsk sound-bpsk refl bpsk-opposite (length buffer) chips b
+
+  -- And so in mode 0: with every chip inverted a reader answers the same number, place, n, count
+  -- and gap, leaves the same report buffer, and where it is done its polarity is the other.
+  pub reads-turned : Alike (readOf 0 (inverse chips) buffer) (readOf 0 chips buffer)
+  reads-turned = rw turned-over (told-turned (answerAt 0 (length buffer) chips) (answer-told 0 (length buffer) chips) buffer)
+
+  pub checked-reads-turned : Alike (readCheckedOf 0 (inverse chips) buffer) (readCheckedOf 0 chips buffer)
+  checked-reads-turned = rw turned-over (checked-turned (answerAt 0 (length buffer) chips) (answer-told 0 (length buffer) chips) buffer)

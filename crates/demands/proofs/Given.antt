@@ -3,25 +3,25 @@
 use mathlib.Core.Path.{_≡_, refl, ap, _∙_}
 use mathlib.Core.Bool.{true, false, not}
 use mathlib.Core.List.{List, [], _∷_}
-use mathlib.Core.Logic.{_⊎_, inl, inr}
-use Prim.Native.Nat.{ℕ, _+_, _*_, _≤_}
+use mathlib.Core.Logic.{_⊎_, inl, inr, ⊎-elim}
+use Prim.Native.Nat.{ℕ, _+_, _*_, _≤_, _<_}
 use native.Mathlib.Omega.{arith}
 use lib.ListN.{length}
 use lib.Dec.{eqb, ltb}
-use borrow.Author.Tests.{eq-eqb, eqb-true, eqb-false, not-false}
+use borrow.Author.Tests.{eq-eqb, ne-eqb, eqb-true, eqb-false, not-false}
 use Rattle.codes.specs.Numbers.{DONE, BADMODE, NOROOM, RUNOUT, NOCHIP, LOST, PREAMBLE, BADSTART, ENDED, BADPART, NOTENDED, MORE, FORGED}
 use Rattle.codes.specs.Chips.{among}
 use Rattle.codes.specs.Radio.{Radio, known, radioOf, bpsk}
 use Rattle.codes.specs.Symbol.{symbolOf}
 use Rattle.codes.specs.declared.Symbol.{Symbol}
-use Rattle.codes.proofs.Tests.{by-pick, not-both}
+use Rattle.codes.proofs.Tests.{by-pick, by-test, not-both}
 use Rattle.codes.proofs.Unique.{symbol-numbers}
 use Rattle.frame.specs.Frame.{startOctet, perOctet}
 use Rattle.order.specs.declared.Hand.{Hand}
 use Rattle.order.specs.Order.{Answer, refused, both, ends, rules}
 use Rattle.reader.specs.Read.{told}
 use Rattle.order.specs.Taking.{stopped, shifted, lengthAfter, moved, rawNext, polarityNext, advanced, followed}
-use Rattle.order.proofs.Rules.{roomy, length-few, preamble-rules}
+use Rattle.order.proofs.Rules.{past-first, roomy, length-few, preamble-rules}
 use Rattle.order.proofs.Steps.{followed-stops, kept-stops}
 use Rattle.receiver.specs.declared.Receiver.{Receiver}
 use Rattle.receiver.specs.declared.Step.{Step}
@@ -34,8 +34,9 @@ use Rattle.demands.proofs.Demand1.{leaves}
 abbrev pub ofSymbol : List ℕ
 ofSymbol = DONE ∷ NOCHIP ∷ LOST ∷ PREAMBLE ∷ BADSTART ∷ MORE ∷ []
 
-symbol-given : (r : Radio) (w : List ℕ) → among (symbolOf r w .number) ofSymbol ≡ true
-symbol-given r w = symbol-numbers r w (λ x. among x ofSymbol ≡ true) refl refl refl
+-- a number that takes no symbol
+takes-none : {P : Type 0} (x : ℕ) → eqb x MORE ≡ false → eqb x DONE ≡ false → (x ≡ MORE) ⊎ (x ≡ DONE) → P
+takes-none x m d = ⊎-elim (λ e. absurd (eqb-false x MORE m e)) (λ e. absurd (eqb-false x DONE d e))
 
 -- with room for every report 3 is none of them
 rules-given : (per s raw start n : ℕ) → (ends per 5 s ≡ true → n ≤ 127) → among (rules per 127 s raw start n) ofSymbol ≡ true
@@ -49,7 +50,7 @@ rules-given per s raw start n q =
     P : ℕ → Type 0
     P z = among z ofSymbol ≡ true
 
--- the ways of a symbol taken: moved or stopped by the rules
+-- what is worked out of a symbol that is read
 module _ (r : Radio) (h : Hand) (x : Symbol) where
   abbrev octet : ℕ
   octet = shifted r (h .octet) (rawNext r h x)
@@ -60,26 +61,62 @@ module _ (r : Radio) (h : Hand) (x : Symbol) where
   abbrev found : ℕ
   found = rules (perOctet r) 127 (h .taken) (rawNext r h x) octet n
 
-  advanced-ways : (P : Hand → Type 0) → ((found ≡ MORE) ⊎ (found ≡ DONE) → P (moved h found n x octet (polarityNext r h x))) → P (stopped found h) → P (advanced r h x)
-  unfolding advanced
-  advanced-ways P a b =
-      by-pick P (eqb found MORE) (moved h found n x octet (polarityNext r h x)) _ (λ t. a (inl (eqb-true found MORE t)))
-      (λ _. by-pick P (eqb found DONE) (moved h found n x octet (polarityNext r h x)) (stopped found h) (λ t. a (inr (eqb-true found DONE t))) (λ _. b))
+  abbrev onto : Hand
+  onto = moved h found n x octet (polarityNext r h x)
 
-  advanced-given : among (advanced r h x .number) ofSymbol ≡ true
-  advanced-given =
-      let given =
-      rules-given (perOctet r) (h .taken) (rawNext r h x) octet n (length-few (perOctet r) (h .taken) (h .length) octet) in
-      advanced-ways (λ g. among (g .number) ofSymbol ≡ true) (λ _. given) given
+-- the ways of a symbol in hand: moved on or stopped by the rules, no chip, or lost
+module _ (mode : ℕ) (k : known mode ≡ true) (h : Hand) (w : List ℕ) where
+  abbrev r : Radio
+  r = radioOf mode
 
-followed-given : (mode : ℕ) → known mode ≡ true → (h : Hand) (w : List ℕ) → among (followed mode h (symbolOf (radioOf mode) w) .number) ofSymbol ≡ true
-unfolding followed
-followed-given mode k h w =
-    let x = symbolOf (radioOf mode) w in
-    rw k
-    (by-pick (λ (g : Hand). among (g .number) ofSymbol ≡ true) (eqb (x .number) DONE)
-    (advanced (radioOf mode) h x) (stopped (x .number) h)
-    (λ _. advanced-given (radioOf mode) h x) (λ _. symbol-given (radioOf mode) w))
+  abbrev x : Symbol
+  x = symbolOf r w
+
+  followed-ways : (P : Hand → Type 0) → ((found r h x ≡ MORE) ⊎ (found r h x ≡ DONE) → P (onto r h x))
+      → ((found r h x ≡ MORE → ⊥) → (found r h x ≡ DONE → ⊥) → P (stopped (found r h x) h)) → P (stopped NOCHIP h) → P (stopped LOST h) → P (followed mode h x)
+  unfolding followed advanced
+  followed-ways P a b n l =
+      rw k
+      (by-pick P (eqb (x .number) DONE) (advanced r h x) (stopped (x .number) h)
+      (λ _. by-pick P (eqb (found r h x) MORE) (onto r h x) _ (λ t. a (inl (eqb-true _ MORE t)))
+      (λ m. by-pick P (eqb (found r h x) DONE) (onto r h x) (stopped (found r h x) h) (λ t. a (inr (eqb-true _ DONE t)))
+      (λ d. b (eqb-false _ MORE m) (eqb-false _ DONE d))))
+      (λ d. symbol-numbers r w (λ y. (y ≡ DONE → ⊥) → P (stopped y h)) (λ _. n) (λ _. l) (λ e. absurd (e refl)) (eqb-false _ DONE d)))
+
+  followed-given : among (followed mode h x .number) ofSymbol ≡ true
+  followed-given =
+      let given = rules-given (perOctet r) (h .taken) (rawNext r h x) (octet r h x) (n r h x)
+      (length-few (perOctet r) (h .taken) (h .length) (octet r h x)) in
+      followed-ways (λ (g : Hand). among (g .number) ofSymbol ≡ true) (λ _. given) (λ _ _. given) refl refl
+
+  -- Where it is taken its value is the last. The polarity stays, but at the first symbol of a chain.
+  followed-last : (followed mode h x .number ≡ MORE) ⊎ (followed mode h x .number ≡ DONE) → followed mode h x .last ≡ x .value
+  followed-last =
+      followed-ways (λ (g : Hand). (g .number ≡ MORE) ⊎ (g .number ≡ DONE) → g .last ≡ x .value) (λ _ _. refl)
+      (λ m d. takes-none (found r h x) (ne-eqb _ MORE m) (ne-eqb _ DONE d)) (takes-none NOCHIP refl refl) (takes-none LOST refl refl)
+
+  followed-keeps : (r .chained ≡ true → h .taken ≡ 0 → ⊥) → followed mode h x .polarity ≡ h .polarity
+  followed-keeps n =
+      followed-ways (λ (g : Hand). g .polarity ≡ h .polarity) (λ _. past-first (r .chained) (h .taken) (h .polarity) (x .value) n) (λ _ _. refl) refl refl
+
+-- At the first symbol of mode 0 the raw bit is 0, and the rules want more: the symbol's value is the
+-- polarity.
+module _ (h : Hand) (t : h .taken ≡ 0) (w : List ℕ) where
+  first-more : found bpsk h (symbolOf bpsk w) ≡ MORE
+  first-more =
+      let v = symbolOf bpsk w in
+      let nought : rawNext bpsk h v ≡ 0 = rw t (omega arith) in
+      preamble-rules 8 (h .taken) (omega (arith, t)) (rawNext bpsk h v) (octet bpsk h v) (n bpsk h v) ∙ rw (eq-eqb (rawNext bpsk h v) 0 nought)
+
+  followed-first : followed 0 h (symbolOf bpsk w) .number ≡ PREAMBLE → ⊥
+  followed-first =
+      followed-ways 0 refl h w (λ (g : Hand). g .number ≡ PREAMBLE → ⊥) (λ _ e. omega (arith, first-more, e)) (λ m _ _. m first-more)
+      (λ e. omega (arith, e)) (λ e. omega (arith, e))
+
+  followed-settles : followed 0 h (symbolOf bpsk w) .number ≡ MORE → followed 0 h (symbolOf bpsk w) .polarity ≡ symbolOf bpsk w .value
+  followed-settles =
+      followed-ways 0 refl h w (λ (g : Hand). g .number ≡ MORE → g .polarity ≡ symbolOf bpsk w .value) (λ _ _. rw t) (λ m _ _. absurd (m first-more))
+      (λ e. absurd (omega (arith, e))) (λ e. absurd (omega (arith, e)))
 
 -- ---- each call
 
@@ -107,26 +144,46 @@ push-numbers c part =
     given : List ℕ
     given = DONE ∷ NOCHIP ∷ LOST ∷ PREAMBLE ∷ BADSTART ∷ ENDED ∷ BADPART ∷ MORE ∷ FORGED ∷ []
 
--- the first symbol of mode 0 settles the polarity, and its raw bit is 0
-followed-first : (h : Hand) → h .taken ≡ 0 → (w : List ℕ) → followed 0 h (symbolOf bpsk w) .number ≡ PREAMBLE → ⊥
-unfolding followed
-followed-first h t w =
-    let x = symbolOf bpsk w in
-    let nought : rawNext bpsk h x ≡ 0 = rw t (omega arith) in
-    let more : found bpsk h x ≡ MORE =
-    preamble-rules 8 (h .taken) (omega (arith, t)) (rawNext bpsk h x) (octet bpsk h x) (n bpsk h x) ∙ rw (eq-eqb (rawNext bpsk h x) 0 nought) in
-    by-pick P (eqb (x .number) DONE) (advanced bpsk h x) (stopped (x .number) h)
-    (λ _. advanced-ways bpsk h x P (λ _ e. omega (arith, more, e)) (λ e. omega (arith, more, e)))
-    (λ _. symbol-numbers bpsk w (λ y. y ≡ PREAMBLE → ⊥) (λ e. omega (arith, e)) (λ e. omega (arith, e)) (λ e. omega (arith, e)))
-  where
-    P : Hand → Type 0
-    P g = g .number ≡ PREAMBLE → ⊥
+-- Where push takes a symbol, its value is the record's last one.
+pub push-last : (c : Receiver) (part : List ℕ) → (pushOf c part .number ≡ MORE) ⊎ (pushOf c part .number ≡ DONE)
+    → pushOf c part .receiver .last ≡ symbolOf (radioOf (c .mode)) part .value
+push-last c part =
+    push-ways c part (λ (s : Step). (s .number ≡ MORE) ⊎ (s .number ≡ DONE) → s .receiver .last ≡ symbolOf (radioOf (c .mode)) part .value)
+    (λ _. takes-none FORGED refl refl) (takes-none ENDED refl refl) (takes-none BADPART refl refl)
+    (λ f o. followed-last (c .mode) (passed-known c f (inl o)) (handOf c) part)
 
--- So no part gives 7 to a mode 0 record that has taken no symbol, whatever else it holds.
-pub push-first : (c : Receiver) → c .mode ≡ 0 → c .taken ≡ 0 → (part : List ℕ) → pushOf c part .number ≡ PREAMBLE → ⊥
-push-first c m t part =
-    push-ways c part (λ (s : Step). s .number ≡ PREAMBLE → ⊥) (λ _ e. omega (arith, e)) (λ e. omega (arith, e)) (λ e. omega (arith, e))
-    (λ _ _. rw m (followed-first (handOf c) t part))
+-- The first symbol of a mode 0 record, whatever else that holds: no part gives 7, and where a symbol
+-- is taken the polarity is what it reads as.
+module _ (c : Receiver) (m : c .mode ≡ 0) (t : c .taken ≡ 0) (part : List ℕ) where
+  pub push-first : pushOf c part .number ≡ PREAMBLE → ⊥
+  push-first =
+      push-ways c part (λ (s : Step). s .number ≡ PREAMBLE → ⊥) (λ _ e. omega (arith, e)) (λ e. omega (arith, e)) (λ e. omega (arith, e))
+      (λ _ _. rw m (followed-first (handOf c) t part))
+
+  pub push-settles : pushOf c part .number ≡ MORE → pushOf c part .receiver .polarity ≡ symbolOf bpsk part .value
+  push-settles =
+      push-ways c part (λ (s : Step). s .number ≡ MORE → s .receiver .polarity ≡ symbolOf bpsk part .value)
+      (λ _ e. absurd (omega (arith, e))) (λ e. absurd (omega (arith, e))) (λ e. absurd (omega (arith, e)))
+      (λ _ _. rw m (followed-settles (handOf c) t part))
+
+-- Any other symbol, and any symbol of another mode, leaves the polarity.
+pub push-keeps : (c : Receiver) (part : List ℕ) → (radioOf (c .mode) .chained ≡ true → c .taken ≡ 0 → ⊥) → pushOf c part .receiver .polarity ≡ c .polarity
+push-keeps c part n =
+    push-ways c part (λ (s : Step). s .receiver .polarity ≡ c .polarity) (λ _. refl) refl refl
+    (λ f o. followed-keeps (c .mode) (passed-known c f (inl o)) (handOf c) part n)
+
+-- a record of mode 0 that a symbol ended with 7 is past its first
+pub took-second : (c : Receiver) → c .mode ≡ 0 → (part : List ℕ)
+    → let d = tookSymbol c (symbolOf (radioOf (c .mode)) part) .receiver in
+    d .ended ≡ PREAMBLE → 0 < d .taken
+took-second c m part e =
+    let g = followed (c .mode) (handOf c) (symbolOf (radioOf (c .mode)) part) in
+    by-test (eqb (c .taken) 0)
+    (λ t. absurd (followed-first (handOf c) (eqb-true (c .taken) 0 t) part (rw m at e)))
+    (λ t.
+    let s : g .taken ≡ c .taken = ap (λ (h : Hand). h .taken)
+    (followed-stops (c .mode) (handOf c) (symbolOf (radioOf (c .mode)) part) (λ z. omega (arith, e, z)) (λ z. omega (arith, e, z))) in
+    omega (arith, s, eqb-false (c .taken) 0 t))
 
 -- 34, 10 and 11 give the record back as it was. Any other number is the one that the record then
 -- holds: 13 while it is open, or what ended it.

@@ -1,11 +1,12 @@
--- The records that the calls make, from start on: each keeps its mode and its 127 octets; it
--- carries the symbols before and wants more, or its frame is complete, or a refusal ended it.
+-- The records that the calls make, from start on: each keeps its mode and its 127 octets; in mode 0
+-- it isn't ended by 7 at symbol 0; it carries the symbols before and wants more, or its frame is
+-- complete, or a refusal ended it.
 -- Assumes nothing.
 use mathlib.Core.Path.{_≡_, refl, sym, _∙_}
 use mathlib.Core.Bool.{true, false}
 use mathlib.Core.List.{List, [], _∷_}
 use mathlib.Core.Logic.{⊎-elim}
-use Prim.Native.Nat.{ℕ}
+use Prim.Native.Nat.{ℕ, _<_}
 use native.Mathlib.Omega.{arith}
 use lib.Dec.{eqb}
 use lib.ListN.{length}
@@ -31,7 +32,7 @@ use Rattle.receiver.proofs.Ways.{forged-refused}
 use Rattle.receiver.proofs.Honest.{open-honest, complete-honest}
 use Rattle.demands.specs.Calls.{Call, pushing, finishing, taking, called, after}
 use Rattle.demands.proofs.Among.{among-pass}
-use Rattle.demands.proofs.Given.{ofSymbol, push-ways, took-given, finish-ways}
+use Rattle.demands.proofs.Given.{ofSymbol, push-ways, took-given, took-second, finish-ways}
 
 -- the numbers that end a record
 abbrev endings : List ℕ
@@ -47,6 +48,7 @@ pub data Honest (c : Receiver) : Type 0 where
 pub record Made (mode : ℕ) (c : Receiver) : Type 0 where
   pub own : c .mode ≡ mode
   pub long : length (c .octets) ≡ 127
+  pub second : mode ≡ 0 → c .ended ≡ PREAMBLE → 0 < c .taken
   pub honest : Honest c
 
 -- a number that ends a record is not another one
@@ -70,8 +72,8 @@ starts mode =
     by-test (known mode)
     (λ k.
     let h = carries-none (radioOf mode) (sound mode) in
-    rw k (record { own = refl; long = refl; honest = wanting k [] h (open-begun (radioOf mode) (sound mode) 127) }))
-    (λ k. rw k (record { own = refl; long = refl; honest = ended refl }))
+    rw k (record { own = refl; long = refl; second = λ _ e. absurd (omega (arith, e)); honest = wanting k [] h (open-begun (radioOf mode) (sound mode) 127) }))
+    (λ k. rw k (record { own = refl; long = refl; second = λ _ e. absurd (omega (arith, e)); honest = ended refl }))
 
 -- a symbol taken
 took : (c : Receiver) → Honest c → (part : List ℕ) → forged c ≡ false → c .ended ≡ MORE → Honest (tookSymbol c (symbolOf (radioOf (c .mode)) part) .receiver)
@@ -108,9 +110,15 @@ keeps : (mode : ℕ) (c : Receiver) → Made mode c → (x : Call) → Made mode
 unfolding called
 keeps mode c M (pushing part) =
     push-ways c part (λ (s : Step). Made mode (s .receiver)) (λ _. M) M M
-    (λ f o. record { own = M .own; long = keeps-long (c .mode) _ (c .octets) ∙ M .long; honest = took c (M .honest) part f o })
+    (λ f o.
+    record {
+      own = M .own;
+      long = keeps-long (c .mode) _ (c .octets) ∙ M .long;
+      second = λ m. took-second c (M .own ∙ m) part;
+      honest = took c (M .honest) part f o;
+    })
 keeps mode c M finishing =
-    finish-ways c (λ (s : Step). Made mode (s .receiver)) (λ _. M) M (record { own = M .own; long = M .long; honest = ended refl })
+    finish-ways c (λ (s : Step). Made mode (s .receiver)) (λ _. M) M (record { own = M .own; long = M .long; second = λ _ e. absurd (omega (arith, e)); honest = ended refl })
 keeps mode c M (taking buffer) = M
 
 carried : (mode : ℕ) (c : Receiver) → Made mode c → (xs : List Call) → Made mode (after c xs)
@@ -121,3 +129,7 @@ carried mode c M (x ∷ xs) = carried mode (called c x .receiver) (keeps mode c 
 -- after any calls
 pub made : (mode : ℕ) (xs : List Call) → Made mode (after (startOf mode .receiver) xs)
 made mode xs = carried mode (startOf mode .receiver) (starts mode) xs
+
+-- so no record that the calls make holds 7 at symbol 0 in mode 0
+pub made-first : (xs : List Call) → after (startOf 0 .receiver) xs .ended ≡ PREAMBLE → 0 < after (startOf 0 .receiver) xs .taken
+made-first xs = made 0 xs .second refl

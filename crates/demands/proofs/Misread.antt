@@ -1,7 +1,8 @@
--- A frame of a report with its FCS, the one that the checked writer wrote or any other of its frames,
--- of which one symbol of the report or of its FCS is read as another value, is refused with 15. What is then read is the frame of another report, as long as the one sent: the raw
--- symbols differ at that symbol and, in a chained radio, at the next, so the bits differ within one
--- run of 16, and the FCS of the other is wrong. For any sound radio. Assumes nothing.
+-- A frame of a report with its FCS, the one that the checked writer wrote or any other of its
+-- frames, of which one symbol of the report or of its FCS is read as another value, is refused with
+-- 15. What is then read is the frame of another report, as long as the one sent: the raw symbols
+-- differ at that symbol and, in a chained radio, at the next, so the bits differ within one run of
+-- 16, and the FCS of the other is wrong. For any sound radio. Assumes nothing.
 use mathlib.Core.Path.{_≡_, refl, sym, ap, ap₂, _∙_}
 use mathlib.Core.Bool.{true}
 use mathlib.Core.List.{List, [], _∷_, _++_}

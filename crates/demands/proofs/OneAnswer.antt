@@ -26,8 +26,8 @@ one-frame r S chips a b f g c d p q k l m n =
     let s = same-parts _ _ c d _ _ _ _ a b e in
     (s .1, near-read r S chips a f c p k m ∙ ap (frameRead r chips) (s .1) ∙ sym (near-read r S chips b g d q l n), s .2)
 
--- other chips after the frame, as long as each of the report's is: the same answer, gap and polarity
--- included
+-- other chips after the frame, as long as each of the report's is: the same answer, gap and
+-- polarity included
 pub after-frame : (r : Radio) → Sound r → (room : ℕ) (chips report : List ℕ) (count : ℕ) → Answers r room chips report count
     → (frame : List ℕ) → OneOf (frames r report) frame → (more : List ℕ)
     → Answers r room (take (length frame) chips ++ more) report count × (frameGap r (take (length frame) chips ++ more) report ≡ frameGap r chips report)

@@ -4,9 +4,9 @@
 -- polarity is 0. Assumes nothing.
 use mathlib.Core.Path.{_≡_, refl, ap, _∙_, subst}
 use mathlib.Core.Bool.{true, false}
-use mathlib.Core.Logic.{_⊎_, inl, inr}
+use mathlib.Core.Logic.{inl, inr}
 use mathlib.Core.List.{List, [], _∷_}
-use Prim.Native.Nat.{ℕ, zero, suc, _≤_}
+use Prim.Native.Nat.{ℕ, zero, suc}
 use native.Mathlib.Omega.{arith}
 use lib.ListN.{length}
 use borrow.Author.Tests.{ltb-true}
@@ -15,7 +15,7 @@ use Rattle.codes.proofs.Facts.{sound, sound-bpsk}
 use Rattle.frame.specs.Frame.{Form, formed, frameWith}
 use Rattle.order.specs.Order.{whole}
 use Rattle.reader.specs.Read.{readOf}
-use Rattle.demands.specs.Words.{forms, OneOf, inverse, formIn, Answers, Near, success}
+use Rattle.demands.specs.Words.{forms, OneOf, inverse, formIn, Answers, Near, NearEither, success}
 use Rattle.demands.proofs.Demand3.{answer-form, answer-frame}
 use Rattle.demands.proofs.Reader.{success-done}
 use Rattle.demands.proofs.TurnsOver.{bpsk-opposite, inverse-frame}
@@ -43,9 +43,7 @@ module _ (mode : ℕ) (k : known mode ≡ true) (chips buffer report : List ℕ)
 -- In mode 0 the chips are near one of the report's frames, or near the inverse of one, with that
 -- count, and the polarity says which.
 pub reads-either : (chips buffer report : List ℕ) (count gap polarity : ℕ) → readOf 0 chips buffer ≡ success 0 buffer report count gap polarity
-    → (bit : ℕ) × (bit ≤ 1)
-    × (((polarity ≡ 0) × Near bpsk chips (frameWith bpsk (formed bit 0) report) count)
-    ⊎ ((polarity ≡ 1) × Near bpsk chips (inverse (frameWith bpsk (formed bit 0) report)) count))
+    → NearEither chips report count polarity
 reads-either chips buffer report count gap polarity o = go (one 0 refl chips buffer report count gap polarity o)
   where
     f : Form
@@ -64,10 +62,7 @@ reads-either chips buffer report count gap polarity o = go (one 0 refl chips buf
     turned : (bit : ℕ) → f ≡ formed bit 1 → Near bpsk chips (inverse (frameWith bpsk (formed bit 0) report)) count
     turned bit e = subst (λ (g : List ℕ). Near bpsk chips g count) (inverse-frame bpsk sound-bpsk refl bpsk-opposite bit report) (sent (formed bit 1) e)
 
-    go : OneOf (formed 0 0 ∷ formed 1 0 ∷ formed 0 1 ∷ formed 1 1 ∷ []) f
-        → (bit : ℕ) × (bit ≤ 1)
-        × (((polarity ≡ 0) × Near bpsk chips (frameWith bpsk (formed bit 0) report) count)
-        ⊎ ((polarity ≡ 1) × Near bpsk chips (inverse (frameWith bpsk (formed bit 0) report)) count))
+    go : OneOf (formed 0 0 ∷ formed 1 0 ∷ formed 0 1 ∷ formed 1 1 ∷ []) f → NearEither chips report count polarity
     go (inl e) = (0, omega arith, inl (p ∙ ap (λ (g : Form). g .polarity) e, sent (formed 0 0) e))
     go (inr (inl e)) = (1, omega arith, inl (p ∙ ap (λ (g : Form). g .polarity) e, sent (formed 1 0) e))
     go (inr (inr (inl e))) = (0, omega arith, inr (p ∙ ap (λ (g : Form). g .polarity) e, turned 0 e))

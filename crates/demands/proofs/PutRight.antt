@@ -1,5 +1,5 @@
--- An accepted buffer with one wrong chip of its frame put right is accepted with the same report and
--- polarity, a count one less and no smaller a gap. Assumes nothing.
+-- An accepted buffer with one wrong chip of its frame put right is accepted with the same report
+-- and polarity, a count one less and no smaller a gap. Assumes nothing.
 use mathlib.Core.Path.{_≡_, sym, ap, _∙_}
 use mathlib.Core.Bool.{false}
 use mathlib.Core.List.{List}

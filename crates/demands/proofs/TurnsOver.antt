@@ -1,8 +1,8 @@
--- What the polarity and the reserved bit do to the chips of a chained radio whose two words are each
--- other's inverse, as mode 0's are. Sent the other way round, every chip of a frame is inverted.
--- With the bit set, the frame is the same before the bit's symbol, number 47, and from there on
--- each chip is inverted, since the chain has turned over. So a report's frames are four in mode 0,
--- and two in the others. Assumes nothing.
+-- What the polarity and the reserved bit do to the chips of a chained radio whose two words are
+-- each other's inverse, as mode 0's are. Sent the other way round, every chip of a frame is
+-- inverted. With the bit set, the frame is the same before the bit's symbol, number 47, and from
+-- there on each chip is inverted, since the chain has turned over. So a report's frames are four in
+-- mode 0, and two in the others. Assumes nothing.
 use mathlib.Core.Path.{_≡_, refl, sym, ap, ap₂, _∙_}
 use mathlib.Core.Bool.{true}
 use mathlib.Core.List.{List, [], _∷_, _++_, append-assoc, map-append}
@@ -19,7 +19,7 @@ use Rattle.frame.proofs.Chain.{encode-long}
 use Rattle.frame.proofs.Count.{digits-long, digits-below, raws-long, raws-below, encode-below, chips-long}
 use Rattle.frame.proofs.Parts.{raws-append}
 use Rattle.frame.proofs.Turns.{encode-append, chips-append}
-use Rattle.demands.specs.Words.{frames, inverse}
+use Rattle.demands.specs.Words.{frames, inverse, Opposite}
 use Rattle.demands.proofs.Spread.{digits-add, digits-low}
 
 -- the bits of a length octet: n's seven, then the reserved one
@@ -32,10 +32,6 @@ length-bits n bit h l =
     let top : x / 2 ^ 7 % 2 ≡ bit = ap (λ (q : ℕ). q % 2) high ∙ omega arith in
     digits-add 7 1 x
     ∙ rw top (ap (λ (l : List ℕ). l ++ bit ∷ []) (sym (digits-low 7 x) ∙ ap (digits 7 2) low ∙ digits-low 7 n))
-
--- a word's inverse is the other word
-abbrev pub Opposite : Radio → Type 0
-Opposite r = (v : ℕ) → v ≤ 1 → word r (1 - v) ≡ inverse (word r v)
 
 module _ (r : Radio) (S : Sound r) (c : r .chained ≡ true) (o : Opposite r) where
   single : r .bits ≡ 1

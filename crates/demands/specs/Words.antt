@@ -7,15 +7,16 @@ use mathlib.Core.Logic.{_⊎_}
 use mathlib.Core.List.{List, [], _∷_, _++_, map}
 use Prim.Native.Nat.{ℕ, zero, suc, _+_, _-_, _*_, _/_, _≤_, _<_}
 use lib.ListN.{length, getD, take, drop}
+use lib.Dec.{eqb}
 use Rattle.codes.specs.Numbers.{DONE, NOROOM, PREAMBLE, BADSTART}
 use Rattle.codes.specs.Chips.{pick, distance, bad}
-use Rattle.codes.specs.Radio.{Radio, radioOf}
+use Rattle.codes.specs.Radio.{Radio, radioOf, word, bpsk}
 use Rattle.frame.specs.Outcome.{Outcome, outcome}
 use Rattle.codes.specs.Symbol.{least, nearest, nextNearest, symbolOf}
 use Rattle.frame.specs.Frame.{perOctet, Form, formed, symbols, frameWith}
 use Rattle.reader.specs.declared.Reading.{Reading}
 use Rattle.order.specs.Received.{polarityOf, received, octetAt}
-use Rattle.order.specs.Order.{done, window, windows, whole, values, reading}
+use Rattle.order.specs.Order.{Answer, refused, done, window, windows, whole, values, reading}
 
 -- a report: at most 127 numbers below 256
 pub record Report (report : List ℕ) : Type 0 where
@@ -39,6 +40,10 @@ OneOf (y ∷ ys) x = (x ≡ y) ⊎ OneOf ys x
 -- chips, each of them inverted
 abbrev pub inverse : List ℕ → List ℕ
 inverse chips = map (λ (c : ℕ). 1 - c) chips
+
+-- the two words of a radio are each other's inverse
+abbrev pub Opposite : Radio → Type 0
+Opposite r = (v : ℕ) → v ≤ 1 → word r (1 - v) ≡ inverse (word r v)
 
 -- the values that symbols in windows read as
 abbrev pub valuesIn : Radio → List (List ℕ) → List ℕ
@@ -93,13 +98,21 @@ pub record NearOne (r : Radio) (chips report : List ℕ) (count : ℕ) : Type 0 
   pub member : OneOf (frames r report) frame
   pub near : Near r chips frame count
 
+-- In mode 0: they do so with the frame of the report that has this polarity, whatever its reserved
+-- bit: with polarity 1 that is the inverse of the frame with 0.
+abbrev pub NearEither : List ℕ → List ℕ → ℕ → ℕ → Type 0
+NearEither chips report count polarity =
+    (bit : ℕ) × (bit ≤ 1)
+    × (((polarity ≡ 0) × Near bpsk chips (frameWith bpsk (formed bit 0) report) count)
+    ⊎ ((polarity ≡ 1) × Near bpsk chips (inverse (frameWith bpsk (formed bit 0) report)) count))
+
 -- the sum of the distances of the windows of the first k symbols
 unfoldable pub differences : Radio → List ℕ → List ℕ → ℕ → ℕ
 differences r xs ys zero = 0
 differences r xs ys (suc k) = differences r xs ys k + distance (window r xs k) (window r ys k)
 
--- the reader's outcome that says this report, this count, this gap and this polarity, and leaves the
--- report at the front of the lent buffer
+-- the reader's outcome that says this report, this count, this gap and this polarity, and leaves
+-- the report at the front of the lent buffer
 abbrev pub success : ℕ → List ℕ → List ℕ → ℕ → ℕ → ℕ → Outcome Reading
 success mode buffer report count gap polarity =
     outcome
@@ -112,6 +125,21 @@ success mode buffer report count gap polarity =
       polarity = polarity;
     })
     (report ++ drop (length report) buffer)
+
+-- an answer with the other polarity; a refusal as it is
+abbrev pub turned : Answer → Answer
+turned (refused x place) = refused x place
+turned (done place report count gap polarity) = done place report count gap (1 - polarity)
+
+-- One outcome of a reader is another but for the polarity, which is the other one where it is done.
+pub record Alike (o p : Outcome Reading) : Type 0 where
+  pub number : o .answer .number ≡ p .answer .number
+  pub place : o .answer .place ≡ p .answer .place
+  pub n : o .answer .n ≡ p .answer .n
+  pub count : o .answer .count ≡ p .answer .count
+  pub gap : o .answer .gap ≡ p .answer .gap
+  pub polarity : o .answer .polarity ≡ pick (eqb (p .answer .number) DONE) (1 - p .answer .polarity) 0
+  pub buffer : o .buffer ≡ p .buffer
 
 -- A number given back stands where the reading order lets it: 7 in the preamble, but, where there
 -- is a chain, not at symbol 0, which settles the polarity; 8 on the last symbol of the start octet,

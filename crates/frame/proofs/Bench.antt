@@ -122,7 +122,8 @@ lowband-bench =
       L = λ report h. omega (arith, lowband-chips plain report);
     }
 
--- The length octet of every frame that is written is n, its reserved bit 0.
+-- Every frame that is written: its length octet is n, the reserved bit 0, and its chain starts from
+-- 0.
 pub written-plain : (r : Radio) (report : List ℕ)
     → frame r report ≡ chipsOf r (encode r 0 (raws r (0 ∷ 0 ∷ 0 ∷ 0 ∷ 0xA7 ∷ length report ∷ report)))
 unfolding frameWith symbolsWith

@@ -9,7 +9,7 @@ use Prim.Native.Nat.{ℕ, _+_, _-_, _*_, _/_, _%_, _^_, _≤_}
 use mathlib.Core.List.{List}
 use lib.ListN.{set}
 use lib.Dec.{eqb, leb, ltb}
-use Rattle.codes.specs.Numbers.{DONE, BADMODE, NOROOM, PREAMBLE, MORE}
+use Rattle.codes.specs.Numbers.{DONE, BADMODE, NOROOM, MORE}
 use Rattle.codes.specs.Chips.{pick}
 use Rattle.codes.specs.Radio.{Radio, known, radioOf}
 use Rattle.codes.specs.Symbol.{lesser, NOGAP}
