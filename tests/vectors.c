@@ -1233,20 +1233,30 @@ static void hand(uint32_t mode, uint32_t octet, uint32_t length, struct slice pa
     fates("strange in hand", record, part);
 }
 
+/* A record of five octets that lacks its last symbol, and one of these that has it. */
+static lernazhup_receiver before_the_last(uint32_t mode)
+{
+    return made_up(mode, LERNAZHUP_MORE, symbols_in(mode, 11) - 1, 5, 0);
+}
+
+static lernazhup_receiver ended_well(lernazhup_receiver record)
+{
+    record.taken++;
+    record.ended = LERNAZHUP_DONE;
+    return record;
+}
+
 /* Gaps that no frame has: no test looks at them, take gives one as it is held, and push keeps it
  * where the symbol's isn't smaller. Cut to 8 or 16 bits, two of them would be 0. */
 static void gaps(uint32_t mode, struct slice part)
 {
     static const uint32_t held[] = {0, 5, 256, 65536};
-    uint32_t last = symbols_in(mode, 11) - 1;
     size_t k;
     for (k = 0; k < sizeof held / sizeof *held; k++) {
-        lernazhup_receiver record = made_up(mode, LERNAZHUP_MORE, last, 5, 0);
+        lernazhup_receiver record = before_the_last(mode);
         record.gap = held[k];
         fates("strange gap", record, part);
-        record.ended = LERNAZHUP_DONE;
-        record.taken = last + 1;
-        probe("strange gap", record, part, 127);
+        probe("strange gap", ended_well(record), part, 127);
     }
 }
 
@@ -1256,16 +1266,13 @@ static void gaps(uint32_t mode, struct slice part)
 static void polarities(uint32_t mode, struct slice part)
 {
     static const uint32_t held[] = {0, 1, 2, 3, MOST};
-    uint32_t last = symbols_in(mode, 11) - 1;
     size_t k;
     for (k = 0; k < sizeof held / sizeof *held; k++) {
-        lernazhup_receiver record = made_up(mode, LERNAZHUP_MORE, last, 5, 0);
+        lernazhup_receiver record = before_the_last(mode);
         record.polarity = held[k];
         fates("strange polarity", record, part);
-        record.taken = last + 1;
-        record.ended = LERNAZHUP_DONE;
-        probe("strange polarity", record, part, 127);
-        probe("strange polarity, no room", record, part, 4);
+        probe("strange polarity", ended_well(record), part, 127);
+        probe("strange polarity, no room", ended_well(record), part, 4);
         record = made_up(mode, LERNAZHUP_MORE, 0, 0, 0);
         record.polarity = record.last = held[k];
         fates("strange before the first symbol", record, part);
