@@ -36,9 +36,10 @@
  * What the checked one can't find: of other errors in a report, one in 65,536 or fewer ends in a
  * right FCS; in mode 0, where a misread symbol turns two bits, one in 33,000, and of a report of
  * fewer than 13 octets one in 6,300. (Reckoned for two misread symbols or more, each by itself and
- * as likely as the next.) A misread length may be right by chance, too, and one that is up to four
- * too long passes where the next frame comes at once (in mode 0 not always): its preamble is zeros,
- * and zeros behind a right FCS leave it right. A frame of somebody else's making, or an old one
+ * as likely as the next.) A misread length may be right by chance, too; one that is one too short
+ * passes where the FCS's high octet is 0, which is one report in 256, and one that is up to four
+ * too long where the next frame comes at once (in mode 0 not always): its preamble is zeros, and
+ * zeros behind a right FCS leave it right. A frame of somebody else's making, or an old one
  * sent again, has a right FCS. And octets that are all 0 have the FCS 0, which would pass: hence
  * LERNAZHUP_ALLZERO, since zeros are what an unplugged rope gives. That is for zeros throughout:
  * behind any octet that isn't 0, as behind the header of a MAC frame, zeros pass, and to look at
@@ -58,10 +59,10 @@
  * end that turns over between two symbols of a frame is another matter: from there on every chip is
  * inverted, and that is one raw bit read as the other. In the preamble it is LERNAZHUP_PREAMBLE, at
  * symbol 1 or later; in the start octet LERNAZHUP_BADSTART; at the reserved bit of the length octet
- * it makes no difference; and elsewhere it is another length or another report, for the FCS to
- * find. Within a symbol it counts as before it where up to six of its chips are as sent, as behind
- * it where nine or more are, and else the symbol is lost. Modes 1 and 2 have one polarity, and tell
- * 0; so does a refusal.
+ * it makes no difference; in the report it is another report, which the FCS finds, and elsewhere
+ * another length, with what is said of that above. Within a symbol it counts as before it where up
+ * to six of its chips are as sent, as behind it where nine or more are, and else the symbol is
+ * lost. Modes 1 and 2 have one polarity, and tell 0; so does a refusal.
  *
  * Who finds the frame: the caller. The first chip of a buffer is taken for the first chip of the
  * preamble, and no other beginning is looked for. In a stream, try one chip after the other as the

@@ -111,6 +111,22 @@ static void turned_over(void)
     }
 }
 
+/* In the length octet: one octet too short, a report whose FCS has a high octet of 0 passes. */
+static void one_too_short(void)
+{
+    static const uint8_t sent[9] = {0x41, 0x88, 1, 2, 3, 4, 5, 6, 0x3E};
+    uint8_t back[LERNAZHUP_REPORT_MAX];
+    size_t length = LERNAZHUP_FRAME_CHIPS(0, 11), from;
+    lernazhup_reading reading;
+    lernazhup_write_checked(0, sent, 9, chips, sizeof chips);
+    for (from = 40 * 15; from < length; from++)
+        chips[from] ^= 1;
+    reading = lernazhup_read_checked(0, chips, length, back, sizeof back);
+    check("a high octet of 0", lernazhup_fcs(sent, 9) < 256, 1);
+    check("one octet too short", reading.number, LERNAZHUP_DONE);
+    check("its n", reading.n, 10);
+}
+
 static void one_polarity(uint32_t mode)
 {
     size_t size = LERNAZHUP_SYMBOL_CHIPS(mode), length = LERNAZHUP_FRAME_CHIPS(mode, 7), from;
@@ -169,10 +185,12 @@ int main(void)
         checked(mode);
         symbols(mode);
         gaps(mode);
-        if (mode == 0)
+        if (mode == 0) {
             turned_over();
-        else
+            one_too_short();
+        } else {
             one_polarity(mode);
+        }
         lernazhup_write(mode, report, 5, chips, sizeof chips);
         kept(mode, LERNAZHUP_FRAME_CHIPS(mode, 5));
         kept(mode, LERNAZHUP_FRAME_CHIPS(mode, 5) - 1);

@@ -48,7 +48,7 @@ use Rattle.order.proofs.Carried.{values-snoc, values-long}
 use Rattle.reader.specs.Read.{told, left, answerAt, answered, readOf}
 use Rattle.reader.proofs.Fair.{Told, answer-told}
 use Rattle.checked.specs.Profile.{checkOf, checkedAnswer, readCheckedOf}
-use Rattle.demands.specs.Words.{inverse, Opposite, turned, Alike}
+use Rattle.demands.specs.Words.{inverse, Opposite, otherWay, Alike}
 use Rattle.demands.proofs.Stands.{take-map}
 use Rattle.demands.proofs.TurnsOver.{bpsk-opposite}
 
@@ -191,25 +191,25 @@ module _ (r : Radio) (S : Sound r) (c : r .chained ≡ true) (o : Opposite r) wh
     some : 0 < length (values all)
     some = omega (arith, values-long all, length-append before (x ∷ []))
 
-    succeeded-turned : (s : ℕ) → succeeded r s (map flip all) ≡ turned (succeeded r s all)
+    succeeded-turned : (s : ℕ) → succeeded r s (map flip all) ≡ otherWay (succeeded r s all)
     unfolding smallestGap
     succeeded-turned s =
         ap₂ (λ (bs : List ℕ) (n : ℕ). done (suc s) (reportIn r bs) n (smallestGap (map flip all)) (polarityOf r (values (map flip all)))) raws-same (repaired-flip all)
         ∙ ap₂ (λ (g p : ℕ). done (suc s) (reportIn r (received r (values all))) (repaired all) g p) (ap least (gaps-flip all))
         (ap (polarityOf r) (values-flip all) ∙ polarity-inverse (values all) some)
 
-    concluded-turned : (s f : ℕ) (next : Answer) → concluded r s (map flip all) f (turned next) ≡ turned (concluded r s all f next)
+    concluded-turned : (s f : ℕ) (next : Answer) → concluded r s (map flip all) f (otherWay next) ≡ otherWay (concluded r s all f next)
     unfolding concluded
     concluded-turned s f next =
         by-test (eqb f MORE) (λ a. rw a) (λ a. by-test (eqb f DONE) (λ b. rw (a, b) (succeeded-turned s)) (λ b. rw (a, b)))
 
-    taking-turned : x .number ≡ DONE → (next : Answer) → taking r room (map flip before) (flip x) (turned next) ≡ turned (taking r room before x next)
+    taking-turned : x .number ≡ DONE → (next : Answer) → taking r room (map flip before) (flip x) (otherWay next) ≡ otherWay (taking r room before x next)
     unfolding taking
     taking-turned d next =
         rw (eq-eqb (x .number) DONE d)
-        (ap₂ (λ (s : ℕ) (l : List Symbol). concluded r s l (verdict r room s (received r (values l))) (turned next))
+        (ap₂ (λ (s : ℕ) (l : List Symbol). concluded r s l (verdict r room s (received r (values l))) (otherWay next))
         (length-map before flip) (sym (map-append flip before (x ∷ [])))
-        ∙ ap (λ (bs : List ℕ). concluded r (length before) (map flip all) (verdict r room (length before) bs) (turned next)) raws-same
+        ∙ ap (λ (bs : List ℕ). concluded r (length before) (map flip all) (verdict r room (length before) bs) (otherWay next)) raws-same
         ∙ concluded-turned (length before) _ next)
 
   taking-lost : (room : ℕ) (before : List Symbol) (y : Symbol) → y .number ≡ LOST → (next : Answer)
@@ -222,7 +222,7 @@ module _ (r : Radio) (S : Sound r) (c : r .chained ≡ true) (o : Opposite r) wh
   Good ws = (s : ℕ) → s < length ws → (length (getD ws s []) ≡ r .size) × (bad (getD ws s []) ≡ false)
 
   from-turned : (room : ℕ) (before : List Symbol) → Below 2 (values before) → (ws : List (List ℕ)) → Good ws
-      → readingFrom r room (map flip before) (map inverse ws) ≡ turned (readingFrom r room before ws)
+      → readingFrom r room (map flip before) (map inverse ws) ≡ otherWay (readingFrom r room before ws)
   unfolding readingFrom
   from-turned room before low [] G = ap (refused RUNOUT) (length-map before flip)
   from-turned room before low (w ∷ ws) G =
@@ -240,7 +240,7 @@ module _ (r : Radio) (S : Sound r) (c : r .chained ≡ true) (o : Opposite r) wh
       let e = lost w (g .0) (g .1) (eqb-false (x .number) DONE t) in
       taking-lost room (map flip before) (symbolOf r (inverse w)) (still-lost w (g .0) (g .1) e) _
       ∙ ap (refused LOST) (length-map before flip)
-      ∙ ap turned (sym (taking-lost room before x e _)))
+      ∙ ap otherWay (sym (taking-lost room before x e _)))
     where
       x : Symbol
       x = symbolOf r w
@@ -259,7 +259,7 @@ module _ (r : Radio) (S : Sound r) (c : r .chained ≡ true) (o : Opposite r) wh
       )
 
   -- Chips 0 and 1, all of them inverted, are read alike but for the polarity.
-  pub reading-turned : (room : ℕ) (chips : List ℕ) → bad chips ≡ false → reading r room (inverse chips) ≡ turned (reading r room chips)
+  pub reading-turned : (room : ℕ) (chips : List ℕ) → bad chips ≡ false → reading r room (inverse chips) ≡ otherWay (reading r room chips)
   unfolding reading
   reading-turned room chips b =
       ap (λ (n : ℕ). readingFrom r room [] (windows r (inverse chips) 0 (n / r .size))) (length-map chips (λ (x : ℕ). 1 - x))
@@ -267,14 +267,14 @@ module _ (r : Radio) (S : Sound r) (c : r .chained ≡ true) (o : Opposite r) wh
       ∙ from-turned room [] tt (whole r chips) (whole-good chips b)
 
 -- so is what is told of them, by the plain reader and by the checked one
-told-turned : (a : Answer) → Told a → (buffer : List ℕ) → Alike (answered (turned a) buffer) (answered a buffer)
+told-turned : (a : Answer) → Told a → (buffer : List ℕ) → Alike (answered (otherWay a) buffer) (answered a buffer)
 unfolding told left
 told-turned (refused x place) f buffer =
     record { number = refl; place = refl; n = refl; count = refl; gap = refl; polarity = rw (ne-eqb x DONE f); buffer = refl }
 told-turned (done place report count gap polarity) f buffer =
     record { number = refl; place = refl; n = refl; count = refl; gap = refl; polarity = refl; buffer = refl }
 
-checked-turned : (a : Answer) → Told a → (buffer : List ℕ) → Alike (answered (checkedAnswer (turned a)) buffer) (answered (checkedAnswer a) buffer)
+checked-turned : (a : Answer) → Told a → (buffer : List ℕ) → Alike (answered (checkedAnswer (otherWay a)) buffer) (answered (checkedAnswer a) buffer)
 unfolding checkedAnswer
 checked-turned (refused x place) f buffer = told-turned (refused x place) f buffer
 checked-turned (done place report count gap polarity) f buffer =
@@ -283,7 +283,7 @@ checked-turned (done place report count gap polarity) f buffer =
     (λ t. rw t (told-turned (refused (checkOf report) place) (eqb-false (checkOf report) DONE t) buffer))
 
 module _ (chips buffer : List ℕ) (b : bad chips ≡ false) where
-  turned-over : answerAt 0 (length buffer) (inverse chips) ≡ turned (answerAt 0 (length buffer) chips)
+  turned-over : answerAt 0 (length buffer) (inverse chips) ≡ otherWay (answerAt 0 (length buffer) chips)
   unfolding answerAt
   turned-over = reading-turned bpsk sound-bpsk refl bpsk-opposite (length buffer) chips b
 

@@ -1,5 +1,6 @@
 -- The numbers that the stepping receiver's calls give back: those that document 01's table has for
--- each. And what a refusal leaves. Assumes nothing.
+-- each. What a push does to the record's last symbol and polarity. And what a refusal leaves.
+-- Assumes nothing.
 use mathlib.Core.Path.{_≡_, refl, ap, _∙_}
 use mathlib.Core.Bool.{true, false, not}
 use mathlib.Core.List.{List, [], _∷_}
@@ -27,6 +28,7 @@ use Rattle.receiver.specs.declared.Receiver.{Receiver}
 use Rattle.receiver.specs.declared.Step.{Step}
 use Rattle.receiver.specs.Record.{step, startOf, isOpen, endedWell, forged, handOf, held, tookSymbol, pushOf, endedWith, finishOf, roomFor, holding, takes, takeOf}
 use Rattle.receiver.proofs.Ways.{passed-known}
+use Rattle.demands.specs.Calls.{Taken}
 use Rattle.demands.proofs.Among.{among-pass}
 use Rattle.demands.proofs.Demand1.{leaves}
 
@@ -34,8 +36,8 @@ use Rattle.demands.proofs.Demand1.{leaves}
 abbrev pub ofSymbol : List ℕ
 ofSymbol = DONE ∷ NOCHIP ∷ LOST ∷ PREAMBLE ∷ BADSTART ∷ MORE ∷ []
 
--- a number that takes no symbol
-takes-none : {P : Type 0} (x : ℕ) → eqb x MORE ≡ false → eqb x DONE ≡ false → (x ≡ MORE) ⊎ (x ≡ DONE) → P
+-- a number with which none is taken
+takes-none : {P : Type 0} (x : ℕ) → eqb x MORE ≡ false → eqb x DONE ≡ false → Taken x → P
 takes-none x m d = ⊎-elim (λ e. absurd (eqb-false x MORE m e)) (λ e. absurd (eqb-false x DONE d e))
 
 -- with room for every report 3 is none of them
@@ -89,18 +91,19 @@ module _ (mode : ℕ) (k : known mode ≡ true) (h : Hand) (w : List ℕ) where
       (length-few (perOctet r) (h .taken) (h .length) (octet r h x)) in
       followed-ways (λ (g : Hand). among (g .number) ofSymbol ≡ true) (λ _. given) (λ _ _. given) refl refl
 
-  -- Where it is taken its value is the last. The polarity stays, but at the first symbol of a chain.
-  followed-last : (followed mode h x .number ≡ MORE) ⊎ (followed mode h x .number ≡ DONE) → followed mode h x .last ≡ x .value
+  -- Where it is taken its value is the last. The polarity stays, but at the first symbol of a
+  -- chain.
+  followed-last : Taken (followed mode h x .number) → followed mode h x .last ≡ x .value
   followed-last =
-      followed-ways (λ (g : Hand). (g .number ≡ MORE) ⊎ (g .number ≡ DONE) → g .last ≡ x .value) (λ _ _. refl)
+      followed-ways (λ (g : Hand). Taken (g .number) → g .last ≡ x .value) (λ _ _. refl)
       (λ m d. takes-none (found r h x) (ne-eqb _ MORE m) (ne-eqb _ DONE d)) (takes-none NOCHIP refl refl) (takes-none LOST refl refl)
 
   followed-keeps : (r .chained ≡ true → h .taken ≡ 0 → ⊥) → followed mode h x .polarity ≡ h .polarity
   followed-keeps n =
       followed-ways (λ (g : Hand). g .polarity ≡ h .polarity) (λ _. past-first (r .chained) (h .taken) (h .polarity) (x .value) n) (λ _ _. refl) refl refl
 
--- At the first symbol of mode 0 the raw bit is 0, and the rules want more: the symbol's value is the
--- polarity.
+-- At the first symbol of mode 0 the raw bit is 0, and the rules want more: the symbol's value is
+-- the polarity.
 module _ (h : Hand) (t : h .taken ≡ 0) (w : List ℕ) where
   first-more : found bpsk h (symbolOf bpsk w) ≡ MORE
   first-more =
@@ -113,10 +116,10 @@ module _ (h : Hand) (t : h .taken ≡ 0) (w : List ℕ) where
       followed-ways 0 refl h w (λ (g : Hand). g .number ≡ PREAMBLE → ⊥) (λ _ e. omega (arith, first-more, e)) (λ m _ _. m first-more)
       (λ e. omega (arith, e)) (λ e. omega (arith, e))
 
-  followed-settles : followed 0 h (symbolOf bpsk w) .number ≡ MORE → followed 0 h (symbolOf bpsk w) .polarity ≡ symbolOf bpsk w .value
+  followed-settles : Taken (followed 0 h (symbolOf bpsk w) .number) → followed 0 h (symbolOf bpsk w) .polarity ≡ symbolOf bpsk w .value
   followed-settles =
-      followed-ways 0 refl h w (λ (g : Hand). g .number ≡ MORE → g .polarity ≡ symbolOf bpsk w .value) (λ _ _. rw t) (λ m _ _. absurd (m first-more))
-      (λ e. absurd (omega (arith, e))) (λ e. absurd (omega (arith, e)))
+      followed-ways 0 refl h w (λ (g : Hand). Taken (g .number) → g .polarity ≡ symbolOf bpsk w .value) (λ _ _. rw t) (λ m _ _. absurd (m first-more))
+      (takes-none NOCHIP refl refl) (takes-none LOST refl refl)
 
 -- ---- each call
 
@@ -145,25 +148,24 @@ push-numbers c part =
     given = DONE ∷ NOCHIP ∷ LOST ∷ PREAMBLE ∷ BADSTART ∷ ENDED ∷ BADPART ∷ MORE ∷ FORGED ∷ []
 
 -- Where push takes a symbol, its value is the record's last one.
-pub push-last : (c : Receiver) (part : List ℕ) → (pushOf c part .number ≡ MORE) ⊎ (pushOf c part .number ≡ DONE)
-    → pushOf c part .receiver .last ≡ symbolOf (radioOf (c .mode)) part .value
+pub push-last : (c : Receiver) (part : List ℕ) → Taken (pushOf c part .number) → pushOf c part .receiver .last ≡ symbolOf (radioOf (c .mode)) part .value
 push-last c part =
-    push-ways c part (λ (s : Step). (s .number ≡ MORE) ⊎ (s .number ≡ DONE) → s .receiver .last ≡ symbolOf (radioOf (c .mode)) part .value)
+    push-ways c part (λ (s : Step). Taken (s .number) → s .receiver .last ≡ symbolOf (radioOf (c .mode)) part .value)
     (λ _. takes-none FORGED refl refl) (takes-none ENDED refl refl) (takes-none BADPART refl refl)
     (λ f o. followed-last (c .mode) (passed-known c f (inl o)) (handOf c) part)
 
--- The first symbol of a mode 0 record, whatever else that holds: no part gives 7, and where a symbol
--- is taken the polarity is what it reads as.
+-- The first symbol of a mode 0 record, whatever else that holds: no part gives 7, and where a
+-- symbol is taken the polarity is what it reads as.
 module _ (c : Receiver) (m : c .mode ≡ 0) (t : c .taken ≡ 0) (part : List ℕ) where
   pub push-first : pushOf c part .number ≡ PREAMBLE → ⊥
   push-first =
       push-ways c part (λ (s : Step). s .number ≡ PREAMBLE → ⊥) (λ _ e. omega (arith, e)) (λ e. omega (arith, e)) (λ e. omega (arith, e))
       (λ _ _. rw m (followed-first (handOf c) t part))
 
-  pub push-settles : pushOf c part .number ≡ MORE → pushOf c part .receiver .polarity ≡ symbolOf bpsk part .value
+  pub push-settles : Taken (pushOf c part .number) → pushOf c part .receiver .polarity ≡ symbolOf bpsk part .value
   push-settles =
-      push-ways c part (λ (s : Step). s .number ≡ MORE → s .receiver .polarity ≡ symbolOf bpsk part .value)
-      (λ _ e. absurd (omega (arith, e))) (λ e. absurd (omega (arith, e))) (λ e. absurd (omega (arith, e)))
+      push-ways c part (λ (s : Step). Taken (s .number) → s .receiver .polarity ≡ symbolOf bpsk part .value)
+      (λ _. takes-none FORGED refl refl) (takes-none ENDED refl refl) (takes-none BADPART refl refl)
       (λ _ _. rw m (followed-settles (handOf c) t part))
 
 -- Any other symbol, and any symbol of another mode, leaves the polarity.

@@ -1,8 +1,8 @@
 -- The demands, and the laws that they stand on, leaves first. To be read are Demand1, Demand2,
 -- Demand3 and, from it, HowClose, PutRight, NoFlat, OneAnswer and Reader; of matching one symbol
--- Matched; of the stepping receiver Stepped, Stray, Forged, Holds and Given; of the checked profile
--- Checked and Misread; of the reserved bit TurnsOver and Withdrawn; of the polarity TurnsOver and
--- Polarity. Each opens with what it says in plain words.
+-- Matched; of the stepping receiver Stepped, Stray, Forged, Holds, Given and, at its end, Made; of
+-- the checked profile Checked and Misread; of the reserved bit TurnsOver and Withdrawn; of the
+-- polarity TurnsOver, Polarity and EitherWay. Each opens with what it says in plain words.
 pub mod Among
 pub mod Digits
 pub mod Back

@@ -3,9 +3,10 @@
 use mathlib.Core.Path.{_≡_}
 use Prim.Native.Nat.{ℕ, _*_, _≤_, _<_}
 use mathlib.Core.Bool.{Bool, false}
+use mathlib.Core.Logic.{_⊎_}
 use mathlib.Core.List.{List, [], _∷_}
 use lib.ListN.{length}
-use Rattle.codes.specs.Numbers.{NOROOM, ENDED, BADPART, NOTENDED}
+use Rattle.codes.specs.Numbers.{DONE, NOROOM, ENDED, BADPART, NOTENDED, MORE}
 use Rattle.codes.specs.Chips.{pick, among}
 use Rattle.codes.specs.Radio.{known, radioOf}
 use Rattle.frame.specs.Outcome.{Outcome, outcome}
@@ -37,6 +38,10 @@ after c (x ∷ xs) = after (called c x .receiver) xs
 unfoldable pub numbers : Receiver → List Call → List ℕ
 numbers c [] = []
 numbers c (x ∷ xs) = called c x .number ∷ numbers (called c x .receiver) xs
+
+-- a number with which push has taken a symbol
+abbrev pub Taken : ℕ → Type 0
+Taken x = (x ≡ MORE) ⊎ (x ≡ DONE)
 
 -- 10, 11 or 12
 abbrev pub stray : ℕ → Bool

@@ -1,6 +1,7 @@
--- The words that the demands are stated with: a report and its frames; that the reading answers a
--- report and a count; the gap of chips and their polarity; chips that are one of those frames but
--- for a few in each symbol; the sum of differences; and the reader's outcome that tells a report.
+-- The words that the demands are stated with: a report and its frames, and their inverse; that the
+-- reading answers a report and a count; the gap of chips and their polarity; chips that are one of
+-- those frames but for a few in each symbol; the sum of differences; the reader's outcome that
+-- tells a report, and outcomes alike but for the polarity; and where a number may stand.
 use mathlib.Core.Path.{_≡_}
 use mathlib.Core.Bool.{true, false}
 use mathlib.Core.Logic.{_⊎_}
@@ -98,8 +99,8 @@ pub record NearOne (r : Radio) (chips report : List ℕ) (count : ℕ) : Type 0 
   pub member : OneOf (frames r report) frame
   pub near : Near r chips frame count
 
--- In mode 0: they do so with the frame of the report that has this polarity, whatever its reserved
--- bit: with polarity 1 that is the inverse of the frame with 0.
+-- In mode 0: they do so with a frame of the report that has this polarity, with one reserved bit or
+-- the other; with polarity 1 that is the inverse of the frame with 0.
 abbrev pub NearEither : List ℕ → List ℕ → ℕ → ℕ → Type 0
 NearEither chips report count polarity =
     (bit : ℕ) × (bit ≤ 1)
@@ -127,11 +128,12 @@ success mode buffer report count gap polarity =
     (report ++ drop (length report) buffer)
 
 -- an answer with the other polarity; a refusal as it is
-abbrev pub turned : Answer → Answer
-turned (refused x place) = refused x place
-turned (done place report count gap polarity) = done place report count gap (1 - polarity)
+abbrev pub otherWay : Answer → Answer
+otherWay (refused x place) = refused x place
+otherWay (done place report count gap polarity) = done place report count gap (1 - polarity)
 
--- One outcome of a reader is another but for the polarity, which is the other one where it is done.
+-- Two outcomes of a reader that are alike in all but the polarity: where they are done the first
+-- has the other one, else 0.
 pub record Alike (o p : Outcome Reading) : Type 0 where
   pub number : o .answer .number ≡ p .answer .number
   pub place : o .answer .place ≡ p .answer .place

@@ -59,7 +59,8 @@ pub fn follow(mode: u32, hand: order::Hand, symbol: codes::Symbol) -> order::Han
     let mut raw = raw_of(phy.chained, values, hand.last, symbol.value);
     let mut polarity = hand.polarity;
     if (hand.taken as usize) < 4 * per {
-        // The first symbol of a chain settles the polarity, and that stands before it: raw it is 0.
+        // The first symbol of a chain settles the polarity. Its own value then stands before it, so
+        // that its raw symbol is 0.
         if phy.chained && hand.taken == 0 {
             raw = 0;
             polarity = symbol.value;
