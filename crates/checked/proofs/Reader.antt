@@ -42,7 +42,8 @@ module _ (buffer aside : List ℕ) (r : Reading) (exit : List ℕ) where
 
   module _ (octets : List ℕ) (o : take (r .n) octets ≡ take (r .n) exit) (d : r .number ≡ DONE) (number : ℕ) (k : number ≡ checkOf (take (r .n) octets)) where
     -- the report that was read
-    read-report : (place count gap polarity : ℕ) (report : List ℕ) → outcome r exit ≡ answered (done place report count gap polarity) aside → take (r .n) octets ≡ report
+    read-report : (place count gap polarity : ℕ) (report : List ℕ) → outcome r exit ≡ answered (done place report count gap polarity) aside
+        → take (r .n) octets ≡ report
     unfolding left told
     read-report place count gap polarity report p =
         let e : r .n ≡ length report = ap (λ (o : Outcome Reading). o .answer .n) p in

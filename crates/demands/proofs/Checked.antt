@@ -56,7 +56,8 @@ stays (refused x place) buffer n = refl
 stays (done place report count gap polarity) buffer n = absurd (n refl)
 
 -- what the plain reader reads are octets
-read-octets : (mode : ℕ) (chips buffer report : List ℕ) (count gap polarity : ℕ) → readOf mode chips buffer ≡ success mode buffer report count gap polarity → Below 256 report
+read-octets : (mode : ℕ) (chips buffer report : List ℕ) (count gap polarity : ℕ)
+    → readOf mode chips buffer ≡ success mode buffer report count gap polarity → Below 256 report
 read-octets mode chips buffer report count gap polarity o =
     by-test (known mode)
     (λ k.
@@ -150,7 +151,8 @@ checked-done mode chips buffer report count gap polarity = (
   λ o.
       let p = told-checked mode buffer report count gap polarity (answerAt mode (length buffer) chips) (answer-told mode (length buffer) chips) o in
       (p .0, check-done report (read-octets mode chips buffer report count gap polarity (p .0)) .0 (p .1)),
-  λ q. checked-passed mode chips buffer report count gap polarity (q .0) (check-done report (read-octets mode chips buffer report count gap polarity (q .0)) .1 (q .1)),
+  λ q. checked-passed mode chips buffer report count gap polarity (q .0)
+      (check-done report (read-octets mode chips buffer report count gap polarity (q .0)) .1 (q .1)),
 )
 
 -- What a reading that is done in this profile stored is not nothing but zeros, whatever the mode
@@ -291,7 +293,8 @@ module _ (mode : ℕ) (k : known mode ≡ true) (report : List ℕ) (octets : Be
 
   -- Each frame of it with its FCS, followed by anything, is read, with that frame's polarity.
   pub checked-reads-frames : (form : Form) → OneOf (forms (radioOf mode)) form → (more buffer : List ℕ) → length report + 2 ≤ length buffer
-      → readCheckedOf mode (frameWith (radioOf mode) form (withFcs report) ++ more) buffer ≡ success mode buffer (withFcs report) 0 (apartIn mode) (form .polarity)
+      → readCheckedOf mode (frameWith (radioOf mode) form (withFcs report) ++ more) buffer
+      ≡ success mode buffer (withFcs report) 0 (apartIn mode) (form .polarity)
   checked-reads-frames form m more buffer l =
       checked-done mode (frameWith (radioOf mode) form (withFcs report) ++ more) buffer (withFcs report) 0 (apartIn mode) (form .polarity) .1
       (reads-frames mode k (withFcs report) (with-report report octets short) form m more buffer (omega (arith, with-long report)), with-passes)

@@ -194,7 +194,8 @@ module _ (r : Radio) (S : Sound r) (c : r .chained ≡ true) (o : Opposite r) wh
     succeeded-turned : (s : ℕ) → succeeded r s (map flip all) ≡ otherWay (succeeded r s all)
     unfolding smallestGap
     succeeded-turned s =
-        ap₂ (λ (bs : List ℕ) (n : ℕ). done (suc s) (reportIn r bs) n (smallestGap (map flip all)) (polarityOf r (values (map flip all)))) raws-same (repaired-flip all)
+        ap₂ (λ (bs : List ℕ) (n : ℕ). done (suc s) (reportIn r bs) n (smallestGap (map flip all)) (polarityOf r (values (map flip all))))
+        raws-same (repaired-flip all)
         ∙ ap₂ (λ (g p : ℕ). done (suc s) (reportIn r (received r (values all))) (repaired all) g p) (ap least (gaps-flip all))
         (ap (polarityOf r) (values-flip all) ∙ polarity-inverse (values all) some)
 

@@ -26,7 +26,8 @@ use Rattle.order.proofs.Rules.{past-first, roomy, length-few, preamble-rules}
 use Rattle.order.proofs.Steps.{followed-stops, kept-stops}
 use Rattle.receiver.specs.declared.Receiver.{Receiver}
 use Rattle.receiver.specs.declared.Step.{Step}
-use Rattle.receiver.specs.Record.{step, startOf, isOpen, endedWell, forged, handOf, held, tookSymbol, pushOf, endedWith, finishOf, roomFor, holding, takes, takeOf}
+use Rattle.receiver.specs.Record.{step, startOf, isOpen, endedWell, forged, handOf, held, tookSymbol, pushOf, endedWith, finishOf}
+use Rattle.receiver.specs.Record.{roomFor, holding, takes, takeOf}
 use Rattle.receiver.proofs.Ways.{passed-known}
 use Rattle.demands.specs.Calls.{Taken}
 use Rattle.demands.proofs.Among.{among-pass}

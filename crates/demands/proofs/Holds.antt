@@ -45,7 +45,8 @@ module _ (mode : ℕ) (c : Receiver) (M : Made mode c) where
         record {
           given = λ buffer h.
               ap (λ (a : Answer). answered a buffer)
-              (sym (takes-done c (length buffer) passed d (M .long) (omega (arith, report-long))) ∙ ap (λ (s : ℕ). done s report (c .count) (c .gap) (toldPolarity c)) place);
+              (sym (takes-done c (length buffer) passed d (M .long) (omega (arith, report-long)))
+              ∙ ap (λ (s : ℕ). done s report (c .count) (c .gap) (toldPolarity c)) place);
           lacking = λ buffer l.
               ap (λ (a : Answer). answered a buffer)
               (sym (takes-short c (length buffer) passed d (M .long) (omega (arith, report-long))) ∙ ap (refused NOROOM) place);

@@ -118,7 +118,8 @@ keeps mode c M (pushing part) =
       honest = took c (M .honest) part f o;
     })
 keeps mode c M finishing =
-    finish-ways c (λ (s : Step). Made mode (s .receiver)) (λ _. M) M (record { own = M .own; long = M .long; second = λ _ e. absurd (omega (arith, e)); honest = ended refl })
+    finish-ways c (λ (s : Step). Made mode (s .receiver)) (λ _. M) M
+    (record { own = M .own; long = M .long; second = λ _ e. absurd (omega (arith, e)); honest = ended refl })
 keeps mode c M (taking buffer) = M
 
 carried : (mode : ℕ) (c : Receiver) → Made mode c → (xs : List Call) → Made mode (after c xs)

@@ -96,7 +96,8 @@ module _ (r : Radio) (S : Sound r) (form : Form) (F : Proper r form) (report : L
       let j = 6 * perOctet r in
       let q : suc k * perOctet r ≤ j = mul-le-mul-right (perOctet r) l in
       let e : take j bs ≡ take j all =
-      decode-take r (form .polarity) j others ∙ ap (decode r (form .polarity)) (take-set-le j vs s v h) ∙ sym (decode-take r (form .polarity) j vs) ∙ ap (take j) raw-again in
+      decode-take r (form .polarity) j others ∙ ap (decode r (form .polarity)) (take-set-le j vs s v h)
+      ∙ sym (decode-take r (form .polarity) j vs) ∙ ap (take j) raw-again in
       sym (octet-take r k j bs q) ∙ ap (octetAt r k) e ∙ octet-take r k j all q
 
   pub other-long : length other ≡ length report
@@ -154,7 +155,8 @@ module _ (r : Radio) (S : Sound r) (form : Form) (F : Proper r form) (report : L
       (λ e. n (shifted e)) in
       (omega (arith, w .0, w .1, sent-after), omega (arith, w .0, w .1, sent-after))
     where
-      shifted : getD (bitsOf (r .bits) (raws r (octetsWith (form .bit) report))) (48 + i) 0 ≡ getD (bitsOf (r .bits) (raws r (octetsWith (form .bit) other))) (48 + i) 0
+      shifted : getD (bitsOf (r .bits) (raws r (octetsWith (form .bit) report))) (48 + i) 0
+          ≡ getD (bitsOf (r .bits) (raws r (octetsWith (form .bit) other))) (48 + i) 0
           → getD (bits report) i 0 ≡ getD (bits other) i 0
       shifted e = sym (report-bit report i) ∙ e ∙ report-bit other i
 

@@ -77,7 +77,8 @@ module _ (r : Radio) (S : Sound r) where
       let m : suc (6 + k) * perOctet r ≤ length old = rw (← s, received-long r before) h in
       kept-other (perOctet r) (per-positive r S) g octets k (λ q. omega arith)
       ∙ G k l h
-      ∙ sym (ap (octetAt r (6 + k)) (received-snoc r before x) ∙ octet-stays r (6 + k) old (rawAfter r (valueBefore r (values before) (x .value)) (x .value) ∷ []) m))
+      ∙ sym (ap (octetAt r (6 + k)) (received-snoc r before x)
+      ∙ octet-stays r (6 + k) old (rawAfter r (valueBefore r (values before) (x .value)) (x .value) ∷ []) m))
       (λ a.
       let h : length before < (7 + k) * perOctet r = leb-false _ _ a in
       let w : (7 + k) * perOctet r ≡ g .taken = omega arith in

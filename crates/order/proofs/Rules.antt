@@ -123,7 +123,8 @@ both-true false b e = not-both false e refl
 
 -- The reader's test of room, after the rules with room for every report, is the rules with
 -- its room.
-module _ (per room s raw o n p : ℕ) (y : Symbol) (h : Hand) (l : h .length ≤ room) (m : ends per 5 s ≡ false → n ≤ room) (q : ends per 5 s ≡ true → n ≤ 127) where
+module _ (per room s raw o n p : ℕ) (y : Symbol) (h : Hand) (l : h .length ≤ room)
+    (m : ends per 5 s ≡ false → n ≤ room) (q : ends per 5 s ≡ true → n ≤ 127) where
   abbrev next : ℕ → Hand
   next x = onward x (moved h x n y o p) (stopped x h)
 
