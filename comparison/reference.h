@@ -2,7 +2,7 @@
  * The reference: document 01 in plain C, with the third radio, the frame check, the reserved bit,
  * the gap and the polarity of document 02 and the signatures of the library. The differential test
  * compares the library with it. It was written from the documents and the header, without sight of
- * the library's source.
+ * the library's source but for what docs/FAULTS.md names.
  */
 #ifndef REFERENCE_H
 #define REFERENCE_H
