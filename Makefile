@@ -1,5 +1,6 @@
-# make run        make send, the bench program on the captures, and the example gateway; with
-#                 CAPTURE=file the bench program on that capture and nothing else
+# make run        make send, the command and the bench program on the captures, and the example
+#                 gateway; with CAPTURE=file the bench program on that capture and nothing else
+# make command    build/lernazhup, the command for the bench
 # make send       a report to a raw capture: MODE=0, 1 or 2, PROFILE=plain or checked (the
 #                 environment's too), REPORT=file, OUT=file
 # make check      programs, library and tests from outside: two or three minutes, less where all
@@ -7,7 +8,8 @@
 # make test       the gate: make check, then every proof from nothing (`rt ci`)
 # make lib        build/liblernazhup.a, build/lernazhup.h and build/lernazhup.pc, for C
 # make shared     build/liblernazhup.so
-# make install    what `make lib` builds, under PREFIX (/usr/local), or libdir and includedir, with
+# make install    what `make lib` builds, and the command with its manual page and completion, under
+#                 PREFIX (/usr/local), or libdir, includedir, bindir, mandir and datadir, with
 #                 DESTDIR before them; `make install-shared` the shared library
 # make uninstall  takes both away from there
 # make speed      times against C, stack and sizes
@@ -16,6 +18,7 @@
 # make help       these lines
 #
 # captures/    raw captures to try              include/     the header
+# command/     the command `lernazhup`, in C
 # crates/      what is proved                   library/     what of the library is C
 # docs/        scope, decisions, promises       example/     a small gateway
 # programs/    send and bench, for users        tests/       the tests from outside
@@ -25,7 +28,7 @@
 # two `rt` at once would share target/; a file half made is none
 .NOTPARALLEL:
 .DELETE_ON_ERROR:
-.PHONY: run send profile check test lib shared install install-shared uninstall speed instructions clean help programs outside places always
+.PHONY: run send profile command check test lib shared install install-shared uninstall speed instructions clean help programs outside places always
 
 MODE = 1
 # the environment's is looked at: overlooked, it would send a report without its FCS
@@ -36,13 +39,16 @@ CAPTURE =
 PREFIX = /usr/local
 libdir = $(PREFIX)/lib
 includedir = $(PREFIX)/include
+bindir = $(PREFIX)/bin
+datadir = $(PREFIX)/share
+mandir = $(datadir)/man
 DESTDIR ?=
 SEED =
 CASES =
 override VERSION := $(shell tools/version)
 # Names go to the scripts by the environment, and as they were given: a blank, a quote or a dollar
 # is part of a name.
-NAMES = MODE PROFILE REPORT OUT CAPTURE PREFIX libdir includedir DESTDIR SEED CASES
+NAMES = MODE PROFILE REPORT OUT CAPTURE PREFIX libdir includedir bindir datadir mandir DESTDIR SEED CASES
 $(foreach name,$(NAMES),$(if $(filter command,$(firstword $(origin $(name)))),$(eval override $(name) := $$(value $(name)))))
 export $(NAMES)
 
@@ -61,11 +67,15 @@ COMPARED = compare compared_calls chip_cases octet_cases record_cases lent_memor
 TIMED = usual_read best_read copying_write usual_fcs
 # programs of one file
 SINGLE = build/gateway build/struct_fields build/header_macros build/vectors build/frame_check build/stack
+# the command, and of it what its fuzzer stands on
+COMMAND = $(wildcard command/*.c)
+FUZZED = $(filter-out command/lernazhup.c,$(COMMAND))
 vpath %.c example tests measure comparison
 
 # some of the captures are there to be refused, which is status 1
 ifeq ($(CAPTURE),)
-run: profile programs lib build/gateway send
+run: profile programs lib build/lernazhup build/gateway send
+	@tools/exec build/lernazhup read captures/*.raw || [ $$? -eq 1 ]
 	@programs/bench captures/*.raw || [ $$? -eq 1 ]
 	@tools/exec build/gateway
 else
@@ -93,7 +103,7 @@ test: check
 
 # every test from outside; each prints a line of counts, and fails where something is wrong. The
 # comparison takes one core for as long as all that stand before the faults, and runs beside them.
-outside: $(SINGLE) build/compare build/speed $(SHARED)
+outside: $(SINGLE) build/compare build/speed $(SHARED) build/lernazhup build/lernazhup-sanitized build/fuzz_command
 	@comparison/compare-test "$$SEED" "$$CASES" >build/compare.said 2>&1 & compared=$$!; \
 	tests/contracts-test && \
 	tests/header-test && \
@@ -106,6 +116,8 @@ outside: $(SINGLE) build/compare build/speed $(SHARED)
 	tests/send-test && \
 	tests/bench-test && \
 	tests/example-test && \
+	tests/command-test && \
+	tests/fuzz-test "$$SEED" && \
 	tools/exec build/stack && \
 	measure/sizes; others=$$?; \
 	wait $$compared; status=$$?; cat build/compare.said; [ $$others -eq 0 ] && [ $$status -eq 0 ]
@@ -138,6 +150,19 @@ $(ARCHIVE): crates.txt $(PROVED) build/kit build/words.o
 build/words.o: library/words.c build/lernazhup.h $(TOOLS)
 	@$(CC) $(CFLAGS) -Ibuild -fPIC -c $< -o $@
 
+command: build/lernazhup
+	@:
+
+build/lernazhup: $(COMMAND) $(wildcard command/*.h) build/lernazhup.h $(ARCHIVE) $(TOOLS)
+	@$(CC) $(CFLAGS) -Ibuild $(COMMAND) $(ARCHIVE) -o $@
+
+# for its tests
+build/lernazhup-sanitized: build/lernazhup
+	@flags=$$(tools/sanitizer-flags) && $(CC) $(CFLAGS) -Ibuild -g $$flags $(COMMAND) $(ARCHIVE) -o $@
+
+build/fuzz_command: fuzz_command.c build/lernazhup
+	@flags=$$(tools/sanitizer-flags) && $(CC) $(CFLAGS) -Ibuild -Icommand -g $$flags $< $(FUZZED) $(ARCHIVE) -o $@
+
 shared: $(SHARED) build/lernazhup.h
 	@:
 
@@ -163,7 +188,7 @@ build/lernazhup.pc: tools/pkg-config-file include/lernazhup.h
 places:
 	@tools/install places
 
-install: places lib
+install: places lib command
 	@tools/install static
 
 install-shared: places shared

@@ -1,0 +1,66 @@
+/* A stream is read as far as is asked and not a byte farther, so that what stands behind a frame is
+ * there for the next reader, and nothing waits for chips that nobody asked for. A regular file that
+ * was opened here is nobody else's, and is read in one piece. */
+#define _POSIX_C_SOURCE 200809L
+#include "input.h"
+
+#include <errno.h>
+#include <fcntl.h>
+#include <string.h>
+#include <sys/stat.h>
+#include <unistd.h>
+
+int open_input(struct input *input, const char *name)
+{
+    struct stat kind;
+    input->have = 0;
+    input->ahead = input->ended = input->failed = 0;
+    input->began = -1;
+    input->own = strcmp(name, "-") != 0;
+    input->descriptor = input->own ? open(name, O_RDONLY | O_NOCTTY | O_CLOEXEC) : STDIN_FILENO;
+    if (input->descriptor < 0)
+        return errno;
+    if (fstat(input->descriptor, &kind) != 0)
+        input->failed = errno;
+    else if (S_ISDIR(kind.st_mode))
+        input->failed = EISDIR;
+    else if (S_ISREG(kind.st_mode)) {
+        input->ahead = input->own;
+        input->began = lseek(input->descriptor, 0, SEEK_CUR);
+    }
+    if (input->failed != 0)
+        close_input(input);
+    return input->failed;
+}
+
+void close_input(struct input *input)
+{
+    if (input->own)
+        close(input->descriptor);
+}
+
+int input_has(struct input *input, size_t count)
+{
+    while (!input->ended && input->have < count) {
+        size_t wanted = (input->ahead ? LOOKED_AT_MAX : count) - input->have;
+        ssize_t got = read(input->descriptor, input->bytes + input->have, wanted);
+        if (got > 0) {
+            input->have += (size_t)got;
+        } else if (got == 0 || errno != EINTR) {
+            input->failed = got == 0 ? 0 : errno;
+            input->ended = 1;
+        }
+    }
+    return input->have >= count;
+}
+
+long long left_over(const struct input *input, size_t used)
+{
+    struct stat kind;
+    long long size;
+    if (input->began < 0 || fstat(input->descriptor, &kind) != 0)
+        return -1;
+    size = (long long)kind.st_size - input->began;
+    /* the file may have been cut since */
+    return (size > (long long)input->have ? size : (long long)input->have) - (long long)used;
+}

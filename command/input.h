@@ -1,0 +1,38 @@
+/* What is read, a capture or a report: a file or a stream, of which no more is read than can
+ * matter. */
+#ifndef INPUT_H
+#define INPUT_H
+
+#include <stddef.h>
+#include <stdint.h>
+
+#include "lernazhup.h"
+
+/* Hints look for a frame that begins with one of the first LERNAZHUP_CHIPS_MAX chips, and from the
+ * last of these on it may have as many: what comes later is never looked at. */
+#define LOOKED_AT_MAX (2 * LERNAZHUP_CHIPS_MAX - 1)
+
+struct input {
+    int descriptor;  /* where more comes from */
+    int own;         /* whether it was opened here, and is to be closed */
+    int ahead;       /* whether more may be read than is asked for: of a file that nobody shares */
+    int ended;       /* whether nothing more comes */
+    int failed;      /* what errno said of a read, or 0 */
+    long long began; /* where in its file a regular one began, and -1 for all else */
+    size_t have;     /* how many bytes have come */
+    uint8_t bytes[LOOKED_AT_MAX];
+};
+
+/* Opens a file by its name, - for standard input. 0, or what errno said. */
+int open_input(struct input *input, const char *name);
+void close_input(struct input *input);
+
+/* Whether it has so many bytes, at most LOOKED_AT_MAX: reads on until these are there or no more
+ * come. */
+int input_has(struct input *input, size_t count);
+
+/* How many bytes stand behind the first `used`, which have come; -1 where only reading on would
+ * tell. */
+long long left_over(const struct input *input, size_t used);
+
+#endif

@@ -1,0 +1,63 @@
+/* The command `lernazhup`: what came in, in words, and captures of reports. It has no radio of its
+ * own: each reading that it shows, and each chip that it writes, is the library's. */
+#define _POSIX_C_SOURCE 200809L
+#include <fcntl.h>
+#include <signal.h>
+#include <stdio.h>
+#include <stdlib.h>
+#include <unistd.h>
+
+#include "arguments.h"
+#include "lernazhup.h"
+#include "shown.h"
+#include "verbs.h"
+
+static const char help[] =
+    "usage: lernazhup read [-m MODE] [-c] [--json] [FILE..]\n"
+    "       lernazhup write -m MODE [-c] [-o CAPTURE] [REPORT]\n"
+    "       lernazhup --help, lernazhup --version\n"
+    "\n"
+    "read   tells what raw captures, a byte a chip, 0 or 1, hold: the report and how\n"
+    "       good the link was, or why nothing was read\n"
+    "write  makes a raw capture of a report, which is the octets of a file\n"
+    "\n"
+    "  -m MODE     0: 868/915 BPSK, 1: 2450 O-QPSK, 2: 868/915 O-QPSK;\n"
+    "              read tries each where none is named\n"
+    "  -c          the checked profile: a report ends with its FCS, which write\n"
+    "              appends and without which read refuses it\n"
+    "  --json      one object of JSON a line for each file\n"
+    "  -o CAPTURE  the file that is made or replaced; - is standard output\n"
+    "  --          no options behind it\n"
+    "\n"
+    "Without a FILE or REPORT, or with -, standard input is read.\n"
+    "Status: 0 every file read, 1 some refused, 2 wrong use or a file of no use.\n";
+
+/* Takes the places of standard streams that are closed, so that no file that is opened gets one of
+ * them: what is then read or written there fails, as it should. */
+static void hold_standard_streams(void)
+{
+    int stream;
+    for (stream = STDIN_FILENO; stream <= STDERR_FILENO; stream++)
+        if (fcntl(stream, F_GETFD) < 0 && open("/dev/null", stream == STDIN_FILENO ? O_WRONLY : O_RDONLY) != stream)
+            exit(USELESS);
+}
+
+int main(int count, char **words)
+{
+    struct arguments asked = parse_arguments(count, words);
+    hold_standard_streams();
+    /* a file that may not grow is one that can't be written, and no reason to leave half of it */
+    signal(SIGXFSZ, SIG_IGN);
+    if (asked.wrong != NULL) {
+        complain(asked.word, asked.wrong);
+        fputs("lernazhup --help tells more\n", stderr);
+        return USELESS;
+    }
+    switch (asked.verb) {
+    case READ: return read_captures(&asked);
+    case WRITE: return write_capture(&asked);
+    case VERSION: printf("lernazhup %s\n", lernazhup_version()); break;
+    case HELP: fputs(help, stdout); break;
+    }
+    return written_out() ? GOOD : USELESS;
+}

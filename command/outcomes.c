@@ -1,0 +1,104 @@
+/* The stepping receiver says how many chips a mode wants, one symbol after the other, and the
+ * reader what is in them: it is proved that the two read alike. */
+#include "outcomes.h"
+
+#include "arguments.h"
+
+/* a mode more in the library is one more here */
+typedef char as_many_modes[LERNAZHUP_SYMBOL_CHIPS(MODES) == 0 && LERNAZHUP_SYMBOL_CHIPS(MODES - 1) > 0 ? 1 : -1];
+
+/* Octets of a frame before its report: the preamble's, the start octet and the length octet. */
+enum { START_AT = 4, LENGTH_AT = 5, REPORT_AT = 6 };
+
+static uint32_t symbols_of_an_octet(uint32_t mode)
+{
+    return (LERNAZHUP_FRAME_CHIPS(mode, 1) - LERNAZHUP_FRAME_CHIPS(mode, 0)) / LERNAZHUP_SYMBOL_CHIPS(mode);
+}
+
+lernazhup_reading read_frame(int checked, uint32_t mode, const uint8_t *chips, size_t length, uint8_t *report)
+{
+    return checked ? lernazhup_read_checked(mode, chips, length, report, LERNAZHUP_REPORT_MAX)
+                   : lernazhup_read(mode, chips, length, report, LERNAZHUP_REPORT_MAX);
+}
+
+/* Has the capture read as far as the mode wants it, and gives what the mode's receiver then is. */
+static lernazhup_receiver receive(struct input *capture, uint32_t mode)
+{
+    size_t size = LERNAZHUP_SYMBOL_CHIPS(mode), at;
+    lernazhup_receiver receiver;
+    uint32_t number = lernazhup_start_into(&receiver, mode);
+    for (at = 0; number == LERNAZHUP_MORE && input_has(capture, at + size); at += size)
+        number = lernazhup_push_into(&receiver, capture->bytes + at, size);
+    return receiver;
+}
+
+static void try_mode(struct outcome *outcome, struct input *capture, uint32_t mode, int checked)
+{
+    lernazhup_receiver receiver = receive(capture, mode);
+    outcome->mode = mode;
+    outcome->sized = receiver.taken >= REPORT_AT * symbols_of_an_octet(mode);
+    outcome->least = LERNAZHUP_FRAME_CHIPS(mode, receiver.length); /* 0 before it is read */
+    outcome->reading = read_frame(checked, mode, capture->bytes, capture->have, outcome->report);
+    outcome->check = 0;
+    outcome->left = -1;
+    if (outcome->reading.number == LERNAZHUP_DONE) {
+        outcome->check = lernazhup_check(outcome->report, outcome->reading.n);
+        outcome->left = left_over(capture, outcome->least);
+    }
+}
+
+void try_modes(struct outcomes *outcomes, struct input *capture, uint32_t mode, int checked)
+{
+    uint32_t first = mode == EVERY_MODE ? 0 : mode, last = mode == EVERY_MODE ? MODES - 1 : mode;
+    outcomes->checked = checked;
+    outcomes->tried = outcomes->read = 0;
+    for (mode = first; mode <= last; mode++) {
+        struct outcome *outcome = &outcomes->of[outcomes->tried++];
+        try_mode(outcome, capture, mode, checked);
+        outcomes->read += outcome->reading.number == LERNAZHUP_DONE;
+    }
+}
+
+/* What the check refuses stands behind the frame's last symbol, in none of its parts. */
+static int behind_the_frame(uint32_t number)
+{
+    return number == LERNAZHUP_TOOFEW || number == LERNAZHUP_BADCHECK || number == LERNAZHUP_ALLZERO;
+}
+
+struct place place_of(const struct outcome *refused, const struct input *capture)
+{
+    static const size_t first[] = {0, START_AT, LENGTH_AT, REPORT_AT};
+    struct place place = {END, refused->reading.place / symbols_of_an_octet(refused->mode), 0,
+                          (size_t)refused->reading.place * LERNAZHUP_SYMBOL_CHIPS(refused->mode)};
+    if (behind_the_frame(refused->reading.number))
+        return place;
+    place.part = REPORT;
+    while (place.octet < first[place.part])
+        place.part--;
+    place.octet_of_part = place.octet - first[place.part];
+    if (refused->reading.number == LERNAZHUP_NOCHIP)
+        while (capture->bytes[place.byte] <= 1)
+            place.byte++;
+    return place;
+}
+
+const char *radio_of(uint32_t mode)
+{
+    static const char *const radios[MODES] = {"868/915 BPSK", "2450 O-QPSK", "868/915 O-QPSK"};
+    return radios[mode];
+}
+
+uint32_t best_gap(uint32_t mode)
+{
+    return LERNAZHUP_BY_MODE(mode, 15u, 12u, 6u);
+}
+
+/* A wrong chip may take two off the best gap; where as many as are accepted all did, it is the
+ * edge. */
+enum closeness closeness_of(const struct outcome *done)
+{
+    uint32_t best = best_gap(done->mode);
+    if (done->reading.gap == best)
+        return BEST;
+    return done->reading.gap == best - 2 * LERNAZHUP_ACCEPTED(done->mode) ? EDGE : BETWEEN;
+}

@@ -1,0 +1,61 @@
+/* What each mode makes of a capture. Every reading is one of the library's. */
+#ifndef OUTCOMES_H
+#define OUTCOMES_H
+
+#include <stddef.h>
+#include <stdint.h>
+
+#include "input.h"
+#include "lernazhup.h"
+
+/* The modes are 0 to MODES - 1. */
+#define MODES 3
+
+struct outcome {
+    uint32_t mode;
+    lernazhup_reading reading;
+    int sized;      /* whether the frame's length octet was read */
+    size_t least;   /* chips of the frame; where that was not read, of the shortest in this mode */
+    uint32_t check; /* of a report, what lernazhup_check says of it */
+    long long left; /* of a report, bytes behind the frame; -1 where that can't be told */
+    uint8_t report[LERNAZHUP_REPORT_MAX];
+};
+
+struct outcomes {
+    int checked;  /* whether in the checked profile */
+    size_t tried; /* how many modes */
+    size_t read;  /* how many of them gave a report */
+    struct outcome of[MODES];
+};
+
+/* The capture in one mode, or in each where it is EVERY_MODE. Reads on as far as a mode wants more
+ * chips. */
+void try_modes(struct outcomes *outcomes, struct input *capture, uint32_t mode, int checked);
+
+/* The frame that the chips begin with, in the profile. The report has room for
+ * LERNAZHUP_REPORT_MAX octets. */
+lernazhup_reading read_frame(int checked, uint32_t mode, const uint8_t *chips, size_t length, uint8_t *report);
+
+/* The parts of a frame, and what is behind it. */
+enum part { PREAMBLE, START, LENGTH, REPORT, END };
+
+/* Where a refusal stands. */
+struct place {
+    enum part part;
+    size_t octet;         /* of the frame */
+    size_t octet_of_part; /* of that part */
+    size_t byte;          /* of the capture: the symbol's first, or the one that is no chip */
+};
+
+struct place place_of(const struct outcome *refused, const struct input *capture);
+
+/* How a gap is to be taken. The best is that of a frame as sent, the largest of its mode. */
+enum closeness { BEST, BETWEEN, EDGE };
+
+uint32_t best_gap(uint32_t mode);
+enum closeness closeness_of(const struct outcome *done);
+
+/* The name of a mode's radio. */
+const char *radio_of(uint32_t mode);
+
+#endif

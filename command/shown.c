@@ -1,0 +1,93 @@
+/* What UTF-8 is stands here once: well-formed sequences, the shortest for their character, no
+ * surrogates, nothing above U+10FFFF. */
+#include "shown.h"
+
+#include <errno.h>
+#include <string.h>
+
+/* The character that the text begins with, and its bytes in *length; where it begins with none,
+ * one byte and -1. The text ends with a 0, which continues nothing. */
+static long character(const unsigned char *text, size_t *length)
+{
+    static const struct {
+        unsigned char mask, lead;
+        long least;
+    } kinds[] = {{0x80, 0x00, 0}, {0xe0, 0xc0, 0x80}, {0xf0, 0xe0, 0x800}, {0xf8, 0xf0, 0x10000}};
+    size_t more, k;
+    long code;
+    *length = 1;
+    for (more = 0; more < 4; more++)
+        if ((text[0] & kinds[more].mask) == kinds[more].lead)
+            break;
+    if (more == 4)
+        return -1;
+    code = text[0] & ~kinds[more].mask & 0xff;
+    for (k = 1; k <= more; k++) {
+        if ((text[k] & 0xc0) != 0x80)
+            return -1;
+        code = code << 6 | (text[k] & 0x3f);
+    }
+    if (code < kinds[more].least || code > 0x10ffff || (code >= 0xd800 && code < 0xe000))
+        return -1;
+    *length = more + 1;
+    return code;
+}
+
+/* The controls of ASCII and those above it. */
+static int control(long code)
+{
+    return code < 0x20 || (code >= 0x7f && code < 0xa0);
+}
+
+void show_name(FILE *out, const char *name)
+{
+    size_t length;
+    for (; *name != 0; name += length) {
+        long code = character((const unsigned char *)name, &length);
+        if (code < 0 || control(code))
+            putc('.', out);
+        else
+            fwrite(name, 1, length, out);
+    }
+}
+
+void show_json(FILE *out, const char *name)
+{
+    size_t length;
+    putc('"', out);
+    for (; *name != 0; name += length) {
+        long code = character((const unsigned char *)name, &length);
+        if (code < 0)
+            fputs("\\ufffd", out);
+        else if (control(code))
+            fprintf(out, "\\u%04lx", (unsigned long)code);
+        else if (code == '"' || code == '\\')
+            fprintf(out, "\\%c", (int)code);
+        else
+            fwrite(name, 1, length, out);
+    }
+    putc('"', out);
+}
+
+int shown_octet(uint8_t octet)
+{
+    return octet >= 0x20 && octet < 0x7f ? octet : '.';
+}
+
+void complain(const char *name, const char *why)
+{
+    fputs("lernazhup: ", stderr);
+    if (name != NULL) {
+        show_name(stderr, *name == 0 ? "''" : name);
+        fputs(": ", stderr);
+    }
+    fprintf(stderr, "%s\n", why);
+}
+
+int written_out(void)
+{
+    if (fflush(stdout) == 0 && !ferror(stdout))
+        return 1;
+    complain("standard output", strerror(errno));
+    return 0;
+}

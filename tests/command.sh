@@ -1,0 +1,49 @@
+# What the tests of the command share, after common.sh: the command as it was built with the
+# sanitizers, from a copy in $room that every user may run.
+here=$PWD
+command=$room/lernazhup
+cp build/lernazhup-sanitized "$command" && chmod 755 "$room" "$command" || exit 2
+case $(uname -m) in
+x86_64) runner='' ;;
+*) runner=$here/tools/exec ;;
+esac
+
+lernazhup() {
+    ${runner:+"$runner"} "$command" "$@"
+}
+
+# came CASE GOT STATUS OUT ERR: the status that came against the one due, and what is in $room/out
+# and $room/err against all lines of either, each with a / behind it
+came() {
+    got="$2 $(tr '\n' / <"$room/out") $(tr '\n' / <"$room/err")"
+    verdict "$1" "$([ "$got" = "$3 $4 $5" ] || echo "'$got' and not '$3 $4 $5'")"
+}
+
+# says CASE STATUS OUT ERR: what the command comes to with the arguments after that
+says() {
+    case=$1 status=$2 out=$3 err=$4
+    shift 4
+    lernazhup "$@" >"$room/out" 2>"$room/err"
+    came "$case" $? "$status" "$out" "$err"
+}
+
+has() { # CASE TEXT: one of the lines in $room/out has this text
+    verdict "$1" "$(grep -qF -e "$2" "$room/out" || echo "'$(tr '\n' / <"$room/out")' has no '$2'")"
+}
+
+# another_user: whether what needs a user who may not read and write everything can be tried;
+# as_another runs it so
+another_user() {
+    [ "$(id -u)" -ne 0 ] || setpriv --reuid=65534 --regid=65534 --clear-groups true 2>"$room/err"
+}
+
+as_another() {
+    if [ "$(id -u)" -ne 0 ]; then "$@"; else setpriv --reuid=65534 --regid=65534 --clear-groups "$@"; fi
+}
+
+# on_a_full_disk COMMAND: a line of shell that is run in $room/disk, a disk of its own that has room
+# for one page, in a space of its own that goes with it
+on_a_full_disk() {
+    mkdir -p "$room/disk"
+    unshare -rm sh -c 'mount -t tmpfs -o size=4k none "$0" && cd "$0" && eval "$1"' "$room/disk" "$1"
+}
