@@ -116,7 +116,8 @@ outside: $(SINGLE) build/compare build/speed $(SHARED) build/lernazhup build/ler
 	tests/send-test && \
 	tests/bench-test && \
 	tests/example-test && \
-	tests/command-test && \
+	tests/command-read-test && \
+	tests/command-write-test && \
 	tests/fuzz-test "$$SEED" && \
 	tools/exec build/stack && \
 	measure/sizes; others=$$?; \

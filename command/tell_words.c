@@ -61,17 +61,16 @@ static void tell_report(FILE *out, const struct account *account, const struct o
         fprintf(out, "  left over  %lld chip%s\n", done->left, done->left == 1 ? "" : "s");
 }
 
-/* Which octet of its part, where that has several, and which of the frame. */
+/* Which octet of the frame, and what that is there. */
 static void tell_place(FILE *out, struct place place)
 {
     switch (place.part) {
-    case PREAMBLE: fprintf(out, "in octet %zu of the preamble", place.octet_of_part); break;
-    case START: fputs("in the start octet", out); break;
-    case LENGTH: fputs("in the length octet", out); break;
-    case REPORT: fprintf(out, "in octet %zu of the report", place.octet_of_part); break;
-    case END: fprintf(out, "behind the frame's %zu octets\n", place.octet); return;
+    case PREAMBLE: fprintf(out, "octet %zu (of the preamble)\n", place.octet); break;
+    case START: fprintf(out, "octet %zu (the start octet)\n", place.octet); break;
+    case LENGTH: fprintf(out, "octet %zu (the length octet)\n", place.octet); break;
+    case REPORT: fprintf(out, "octet %zu (octet %zu of the report)\n", place.octet, place.octet_of_part); break;
+    case END: fprintf(out, "behind the frame's %zu octets\n", place.octet); break;
     }
-    fprintf(out, " (octet %zu of the frame)\n", place.octet);
 }
 
 static void tell_refusal(FILE *out, const struct account *account, const struct outcome *refused)

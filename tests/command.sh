@@ -12,6 +12,9 @@ lernazhup() {
     ${runner:+"$runner"} "$command" "$@"
 }
 
+# the same as a line of shell begins
+program="${runner:+'$runner'} '$command'"
+
 # came CASE GOT STATUS OUT ERR: the status that came against the one due, and what is in $room/out
 # and $room/err against all lines of either, each with a / behind it
 came() {
@@ -31,14 +34,25 @@ has() { # CASE TEXT: one of the lines in $room/out has this text
     verdict "$1" "$(grep -qF -e "$2" "$room/out" || echo "'$(tr '\n' / <"$room/out")' has no '$2'")"
 }
 
-# another_user: whether what needs a user who may not read and write everything can be tried;
-# as_another runs it so
-another_user() {
-    [ "$(id -u)" -ne 0 ] || setpriv --reuid=65534 --regid=65534 --clear-groups true 2>"$room/err"
+# as_another runs the command as a user who may not read and write everything; another_user tells
+# whether that can be had
+as_another() {
+    set -- ${runner:+"$runner"} "$command" "$@"
+    if [ "$(id -u)" -ne 0 ]; then "$@"; else setpriv --reuid=65534 --regid=65534 --clear-groups "$@"; fi
 }
 
-as_another() {
-    if [ "$(id -u)" -ne 0 ]; then "$@"; else setpriv --reuid=65534 --regid=65534 --clear-groups "$@"; fi
+another_user() {
+    as_another --version >"$room/out" 2>"$room/err"
+}
+
+# terminal LINE: runs a line of shell with a terminal for its output, which comes to $room/out;
+# a_terminal tells whether one can be had
+terminal() {
+    script -qec "$1" "$room/typescript" </dev/null >"$room/out" 2>"$room/err"
+}
+
+a_terminal() {
+    terminal 'test -t 1 && test -t 2'
 }
 
 # on_a_full_disk COMMAND: a line of shell that is run in $room/disk, a disk of its own that has room

@@ -116,7 +116,7 @@ static void make_frame(struct made *made)
     lernazhup_written written;
     uint8_t *frame = capture.bytes + made->before;
     size_t at;
-    made->octets = 1 + draw(draw(64) > 0 ? 3 : 124);
+    made->octets = (made->checked ? 1 : 0) + draw(draw(64) > 0 ? 3 : 124);
     draw_bytes(made->report, made->octets, 256);
     made->report[0] |= 1;
     memset(capture.bytes, (int)draw(2), made->before);
@@ -156,11 +156,11 @@ static void to_bits(int lowest_first)
 static void make_capture(struct made *made, const struct arguments *asked)
 {
     uint32_t kind = draw(100);
-    made->how = kind < 45 ? RANDOM : kind < 80 ? CHIPS : (enum making)(FRAME + draw(MAKINGS - FRAME));
+    made->how = kind < 50 ? RANDOM : kind < 88 ? CHIPS : (enum making)(FRAME + draw(MAKINGS - FRAME));
     made->checked = asked->checked;
     made->mode = asked->mode == EVERY_MODE ? draw(MODES) : asked->mode;
     made->before = made->how == LATE ? 1 + draw(40) : 0;
-    capture.have = draw(draw(64) > 0 ? 40 : 1024);
+    capture.have = draw(draw(64) > 0 ? 40 : 400);
     if (made->how >= FRAME)
         make_frame(made);
     switch (made->how) {
