@@ -64,13 +64,15 @@ void put_hint(FILE *out, const struct hint *hint)
     case EMPTY: fputs("it is empty", out); break;
     case DIGITS: put_digits(out, hint); break;
     case LATER:
-        fputs("it reads ", out);
+        fputs("a frame reads ", out);
         put_reading(out, hint);
         fprintf(out, ": tail -c +%zu leaves those out", hint->at + 1);
         break;
     case OTHER_MODE: fprintf(out, "it reads in mode %u", (unsigned)hint->mode); break;
     case CHECK:
-        fprintf(out, "every symbol reads in mode %u: it is the check of -c that refuses the report", (unsigned)hint->mode);
+        fputs("every symbol of a frame reads ", out);
+        put_reading(out, hint);
+        fputs(": it is the check of -c that refuses its report", out);
         break;
     case PACKED_LOW:
     case PACKED_HIGH: put_packed(out, hint); break;

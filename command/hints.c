@@ -1,5 +1,5 @@
-/* First what makes the bytes no chips at all, then where else a frame is, then what is wrong with
- * the chips. A frame elsewhere is found by reading there. */
+/* First the frames that read, though not as was asked; then, where there is none, what the bytes
+ * are instead. A frame is found by reading there. */
 #include "hints.h"
 
 #include "arguments.h"
@@ -16,119 +16,99 @@ static struct hint *add(struct hints *hints, enum hint_kind kind, const struct i
     return hint;
 }
 
-/* The first beginning from `from` on, and below LERNAZHUP_CHIPS_MAX, at which one of the modes that
- * were tried reads; whether there is one. Where fewer chips are left than a frame has there is
- * nothing to try. */
-static int find_frame(const struct outcomes *tried, const uint8_t *chips, size_t length, size_t from, struct hint *found)
+/* Adds a hint that a frame reads in one of the modes tried, if one does: the first that begins at a
+ * chip from `from` on, and below LERNAZHUP_CHIPS_MAX. */
+static int find_frame(struct hints *hints, enum hint_kind kind, struct input *chips, size_t from, const struct outcomes *tried)
 {
+    int checked = tried->checked && kind != CHECK;
     uint8_t report[LERNAZHUP_REPORT_MAX];
     size_t at, k;
-    for (at = from; at < length && at < LERNAZHUP_CHIPS_MAX; at++)
+    for (at = from; at < LERNAZHUP_CHIPS_MAX && input_has(chips, at + 1); at++)
         for (k = 0; k < tried->tried; k++) {
             uint32_t mode = tried->of[k].mode;
-            if (length - at < LERNAZHUP_FRAME_CHIPS(mode, 0))
-                continue;
-            if (read_frame(tried->checked, mode, chips + at, length - at, report).number != LERNAZHUP_DONE)
-                continue;
-            found->mode = mode;
-            found->at = at;
+            if (chips->ended && chips->have - at < LERNAZHUP_FRAME_CHIPS(mode, 0))
+                continue; /* too few for any frame */
+            if (read_frame(checked, mode, chips, at, report).number == LERNAZHUP_DONE) {
+                struct hint *hint = add(hints, kind, chips);
+                hint->mode = mode;
+                hint->at = at;
+                return 1;
+            }
+        }
+    return 0;
+}
+
+/* From the first chip on, in a mode that was not tried. */
+static int other_mode(struct hints *hints, struct input *capture, const struct outcomes *tried)
+{
+    uint8_t report[LERNAZHUP_REPORT_MAX];
+    uint32_t mode;
+    for (mode = 0; mode < MODES && tried->tried < MODES; mode++)
+        if (mode != tried->of[0].mode && read_frame(tried->checked, mode, capture, 0, report).number == LERNAZHUP_DONE) {
+            add(hints, OTHER_MODE, capture)->mode = mode;
             return 1;
         }
     return 0;
 }
 
-/* The digits among the bytes as chips; 0 where there is anything but digits, blanks, commas and
- * line ends. */
-static size_t digits_to_chips(const struct input *capture, uint8_t *chips)
+/* The first byte that is no chip; as many as there are where all are. */
+static size_t first_above_one(const struct input *capture)
 {
-    size_t at, count = 0;
+    size_t at = 0;
+    while (at < capture->have && capture->bytes[at] <= 1)
+        at++;
+    return at;
+}
+
+/* The digits among the bytes as chips; none where there is anything but digits, blanks, commas and
+ * line ends. */
+static void digits_to_chips(const struct input *capture, struct input *chips)
+{
+    size_t at;
+    made_input(chips);
     for (at = 0; at < capture->have; at++)
         switch (capture->bytes[at]) {
         case '0':
-        case '1': chips[count++] = (uint8_t)(capture->bytes[at] - '0'); break;
+        case '1': chips->bytes[chips->have++] = (uint8_t)(capture->bytes[at] - '0'); break;
         case ' ':
         case ',':
         case '\t':
         case '\r':
         case '\n': break;
-        default: return 0;
+        default: chips->have = 0; return;
         }
-    return count;
 }
 
 static int digits(struct hints *hints, const struct input *capture, const struct outcomes *tried)
 {
-    uint8_t chips[LOOKED_AT_MAX];
-    size_t count = digits_to_chips(capture, chips);
-    if (count == 0)
-        return 0;
-    find_frame(tried, chips, count, 0, add(hints, DIGITS, capture));
-    return 1;
-}
-
-static int later(struct hints *hints, const struct input *capture, const struct outcomes *tried)
-{
-    struct hint found;
-    if (!find_frame(tried, capture->bytes, capture->have, 1, &found))
-        return 0;
-    found.kind = LATER;
-    hints->list[hints->count++] = found;
-    return 1;
+    struct input chips;
+    digits_to_chips(capture, &chips);
+    if (chips.have > 0 && !find_frame(hints, DIGITS, &chips, 0, tried))
+        add(hints, DIGITS, capture);
+    return chips.have > 0;
 }
 
 /* Each byte as eight chips, as far as a frame is looked for. */
-static size_t unpack(const struct input *capture, int lowest_first, uint8_t *chips)
+static void unpack(const struct input *capture, int lowest_first, struct input *chips)
 {
-    size_t count;
-    for (count = 0; count < LOOKED_AT_MAX && count / 8 < capture->have; count++) {
-        unsigned bit = (unsigned)(count % 8);
-        chips[count] = capture->bytes[count / 8] >> (lowest_first ? bit : 7 - bit) & 1;
+    made_input(chips);
+    for (; chips->have < LOOKED_AT_MAX && chips->have / 8 < capture->have; chips->have++) {
+        unsigned bit = (unsigned)(chips->have % 8);
+        chips->bytes[chips->have] = capture->bytes[chips->have / 8] >> (lowest_first ? bit : 7 - bit) & 1;
     }
-    return count;
 }
 
+/* Bytes that are all chips are not looked at as eight of them each. */
 static int packed(struct hints *hints, const struct input *capture, const struct outcomes *tried)
 {
-    uint8_t chips[LOOKED_AT_MAX];
-    int lowest_first;
-    for (lowest_first = 1; lowest_first >= 0; lowest_first--) {
-        size_t count = unpack(capture, lowest_first, chips);
-        if (find_frame(tried, chips, count, 0, add(hints, lowest_first ? PACKED_LOW : PACKED_HIGH, capture)))
-            return 1;
-        hints->count--;
-    }
-    return 0;
-}
-
-/* Bytes that are no chips: chips that are packed, or else how many there are. */
-static void no_chips(struct hints *hints, const struct input *capture, const struct outcomes *tried)
-{
-    size_t at, first = 0, count = 0;
-    for (at = capture->have; at-- > 0;)
-        if (capture->bytes[at] > 1) {
-            first = at;
-            count++;
-        }
-    if (count > 0 && !packed(hints, capture, tried)) {
-        struct hint *hint = add(hints, BYTES, capture);
-        hint->at = first;
-        hint->count = count;
-    }
-}
-
-/* Whether all bytes from one on are the same chip. */
-static int flat(struct hints *hints, const struct input *capture, size_t from, enum hint_kind kind)
-{
-    struct hint *hint;
-    size_t at;
-    for (at = from; at < capture->have; at++)
-        if (capture->bytes[at] > 1 || capture->bytes[at] != capture->bytes[from])
-            return 0;
-    hint = add(hints, kind, capture);
-    hint->at = from;
-    hint->count = capture->have - from;
-    hint->value = capture->bytes[from];
-    return 1;
+    struct input chips;
+    if (first_above_one(capture) == capture->have)
+        return 0;
+    unpack(capture, 1, &chips);
+    if (find_frame(hints, PACKED_LOW, &chips, 0, tried))
+        return 1;
+    unpack(capture, 0, &chips);
+    return find_frame(hints, PACKED_HIGH, &chips, 0, tried);
 }
 
 static size_t chips_read(const struct outcome *refused)
@@ -150,58 +130,91 @@ static const struct outcome *farthest(const struct outcomes *refused, uint32_t n
     return best;
 }
 
-/* That a frame reads from the first chip on, but not as was asked: in another mode, or in one that
- * was tried without the check. */
-static void otherwise(struct hints *hints, const struct input *capture, const struct outcomes *refused)
+/* How many bytes are no chips, where a reading ended at one of them or among the last bytes. */
+static void no_chips(struct hints *hints, const struct input *capture, const struct outcomes *refused)
 {
-    uint8_t report[LERNAZHUP_REPORT_MAX];
-    uint32_t mode;
-    for (mode = 0; mode < MODES; mode++) {
-        int tried = refused->tried == MODES || refused->of[0].mode == mode;
-        int checked = refused->checked && !tried;
-        if (tried && !refused->checked)
-            continue;
-        if (read_frame(checked, mode, capture->bytes, capture->have, report).number == LERNAZHUP_DONE) {
-            add(hints, tried ? CHECK : OTHER_MODE, capture)->mode = mode;
-            return;
-        }
-    }
+    size_t at = first_above_one(capture);
+    struct hint *hint;
+    if (at == capture->have || (farthest(refused, LERNAZHUP_NOCHIP) == NULL && farthest(refused, LERNAZHUP_RUNOUT) == NULL))
+        return;
+    hint = add(hints, BYTES, capture);
+    hint->at = at;
+    for (; at < capture->have; at++)
+        hint->count += capture->bytes[at] > 1;
 }
 
-/* Fewer chips than the frame has that they ran out in; where not one symbol of such a frame is
- * there, fewer than any frame has. */
-static void too_short(struct hints *hints, const struct input *capture, const struct outcomes *refused)
-{
-    const struct outcome *cut = farthest(refused, LERNAZHUP_RUNOUT);
-    size_t k;
-    if (cut == NULL || cut->reading.place == 0) {
-        cut = &refused->of[0];
-        for (k = 1; k < refused->tried; k++)
-            if (refused->of[k].least < cut->least)
-                cut = &refused->of[k];
-    }
-    if (capture->have < cut->least) {
-        struct hint *hint = add(hints, SHORT, capture);
-        hint->mode = cut->mode;
-        hint->count = cut->least;
-        hint->value = cut->sized ? 1 : 0;
-    }
-}
-
-void find_hints(struct hints *hints, struct input *capture, const struct outcomes *refused)
+/* Chips that are flat to the end, from a symbol that was lost or from before it: at least as many
+ * as a symbol has, which no frame as sent has in a row. */
+static void flat(struct hints *hints, const struct input *capture, const struct outcomes *refused)
 {
     const struct outcome *lost = farthest(refused, LERNAZHUP_LOST);
-    hints->count = 0;
-    input_has(capture, LOOKED_AT_MAX);
+    size_t from = capture->have - 1, size;
+    struct hint *hint;
+    if (lost == NULL || capture->bytes[from] > 1)
+        return;
+    while (from > 0 && capture->bytes[from - 1] == capture->bytes[from])
+        from--;
+    size = LERNAZHUP_SYMBOL_CHIPS(lost->mode);
+    if (from >= chips_read(lost) + size || capture->have - from < size)
+        return;
+    hint = add(hints, from == 0 ? FLAT : FLAT_FROM, capture);
+    hint->at = from;
+    hint->count = capture->have - from;
+    hint->value = capture->bytes[from];
+}
+
+/* The frame that a capture may be too short for: one that chips ran out in, or one whose length was
+ * read; else the shortest of the modes tried. */
+static const struct outcome *wanted(const struct outcomes *refused)
+{
+    const struct outcome *cut = farthest(refused, LERNAZHUP_RUNOUT), *shortest = &refused->of[0];
+    size_t k;
+    if (cut != NULL && cut->reading.place > 0)
+        return cut;
+    for (k = 0; k < refused->tried; k++) {
+        if (refused->of[k].sized)
+            return &refused->of[k];
+        if (refused->of[k].least < shortest->least)
+            shortest = &refused->of[k];
+    }
+    return shortest;
+}
+
+static void too_short(struct hints *hints, const struct input *capture, const struct outcomes *refused)
+{
+    const struct outcome *frame = wanted(refused);
+    if (capture->have < frame->least) {
+        struct hint *hint = add(hints, SHORT, capture);
+        hint->mode = frame->mode;
+        hint->count = frame->least;
+        hint->value = frame->sized ? 1 : 0;
+    }
+}
+
+/* What the bytes are, where no frame reads from the first one on. */
+static void find_facts(struct hints *hints, const struct input *capture, const struct outcomes *refused)
+{
+    int later = hints->count > 0;
     if (capture->have == 0) {
         add(hints, EMPTY, capture);
         return;
     }
-    if (digits(hints, capture, refused) || later(hints, capture, refused))
+    if (!later && (digits(hints, capture, refused) || packed(hints, capture, refused)))
         return;
-    otherwise(hints, capture, refused);
     no_chips(hints, capture, refused);
-    if (!flat(hints, capture, 0, FLAT) && lost != NULL)
-        flat(hints, capture, chips_read(lost), FLAT_FROM);
-    too_short(hints, capture, refused);
+    flat(hints, capture, refused);
+    if (!later)
+        too_short(hints, capture, refused);
+}
+
+void find_hints(struct hints *hints, struct input *capture, const struct outcomes *refused)
+{
+    hints->count = 0;
+    if (other_mode(hints, capture, refused))
+        return;
+    if (refused->checked)
+        find_frame(hints, CHECK, capture, 0, refused);
+    find_frame(hints, LATER, capture, 1, refused);
+    if (hints->count == 0 || hints->list[0].at > 0)
+        find_facts(hints, capture, refused);
 }

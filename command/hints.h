@@ -1,5 +1,5 @@
 /* Why a capture may not have been read, where that can be told honestly: each hint is a fact about
- * the bytes, or a reading of the library's of other bytes than those given. */
+ * the bytes, or a reading of the library's that is not the one asked for. */
 #ifndef HINTS_H
 #define HINTS_H
 
@@ -11,16 +11,16 @@
 #include "outcomes.h"
 
 enum hint_kind {
+    CHECK,       /* a frame reads, and the check refuses its report */
+    LATER,       /* a frame reads when started some chips later */
+    OTHER_MODE,  /* reads in a mode that was not asked for */
     EMPTY,       /* nothing came */
     DIGITS,      /* the digits 0 and 1 as text, which may read as chips */
-    LATER,       /* reads when started some chips later */
-    OTHER_MODE,  /* reads in a mode that was not asked for */
-    CHECK,       /* the frame reads, and the check refuses its report */
     PACKED_LOW,  /* reads with each byte as eight chips, the lowest bit first */
     PACKED_HIGH, /* the same with the highest first */
-    BYTES,       /* bytes that are no chips */
+    BYTES,       /* bytes that are no chips, where one ended a reading */
     FLAT,        /* every chip has the one value */
-    FLAT_FROM,   /* the same from where a symbol was lost */
+    FLAT_FROM,   /* the same from a byte on, in or before the symbol that was lost */
     SHORT        /* fewer chips than the frame has */
 };
 

@@ -10,12 +10,19 @@
 #include <sys/stat.h>
 #include <unistd.h>
 
+void made_input(struct input *input)
+{
+    input->have = 0;
+    input->own = input->ahead = input->failed = 0;
+    input->ended = 1;
+    input->began = input->descriptor = -1;
+}
+
 int open_input(struct input *input, const char *name)
 {
     struct stat kind;
-    input->have = 0;
-    input->ahead = input->ended = input->failed = 0;
-    input->began = -1;
+    made_input(input);
+    input->ended = 0;
     input->own = strcmp(name, "-") != 0;
     input->descriptor = input->own ? open(name, O_RDONLY | O_NOCTTY | O_CLOEXEC) : STDIN_FILENO;
     if (input->descriptor < 0)

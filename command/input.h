@@ -8,12 +8,12 @@
 
 #include "lernazhup.h"
 
-/* Hints look for a frame that begins with one of the first LERNAZHUP_CHIPS_MAX chips, and from the
+/* A frame is looked for that begins with one of the first LERNAZHUP_CHIPS_MAX chips, and from the
  * last of these on it may have as many: what comes later is never looked at. */
 #define LOOKED_AT_MAX (2 * LERNAZHUP_CHIPS_MAX - 1)
 
 struct input {
-    int descriptor;  /* where more comes from */
+    int descriptor;  /* where more comes from, until it has ended */
     int own;         /* whether it was opened here, and is to be closed */
     int ahead;       /* whether more may be read than is asked for: of a file that nobody shares */
     int ended;       /* whether nothing more comes */
@@ -26,6 +26,9 @@ struct input {
 /* Opens a file by its name, - for standard input. 0, or what errno said. */
 int open_input(struct input *input, const char *name);
 void close_input(struct input *input);
+
+/* An input without a byte, to which nothing comes: for bytes that are made here. */
+void made_input(struct input *input);
 
 /* Whether it has so many bytes, at most LOOKED_AT_MAX: reads on until these are there or no more
  * come. */

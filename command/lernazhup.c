@@ -1,11 +1,8 @@
 /* The command `lernazhup`: what came in, in words, and captures of reports. It has no radio of its
  * own: each reading that it shows, and each chip that it writes, is the library's. */
 #define _POSIX_C_SOURCE 200809L
-#include <fcntl.h>
 #include <signal.h>
 #include <stdio.h>
-#include <stdlib.h>
-#include <unistd.h>
 
 #include "arguments.h"
 #include "lernazhup.h"
@@ -32,20 +29,9 @@ static const char help[] =
     "Without a FILE or REPORT, or with -, standard input is read.\n"
     "Status: 0 every file read, 1 some refused, 2 wrong use or a file of no use.\n";
 
-/* Takes the places of standard streams that are closed, so that no file that is opened gets one of
- * them: what is then read or written there fails, as it should. */
-static void hold_standard_streams(void)
-{
-    int stream;
-    for (stream = STDIN_FILENO; stream <= STDERR_FILENO; stream++)
-        if (fcntl(stream, F_GETFD) < 0 && open("/dev/null", stream == STDIN_FILENO ? O_WRONLY : O_RDONLY) != stream)
-            exit(USELESS);
-}
-
 int main(int count, char **words)
 {
     struct arguments asked = parse_arguments(count, words);
-    hold_standard_streams();
     /* a file that may not grow is one that can't be written, and no reason to leave half of it */
     signal(SIGXFSZ, SIG_IGN);
     if (asked.wrong != NULL) {

@@ -15,34 +15,55 @@ static uint32_t symbols_of_an_octet(uint32_t mode)
     return (LERNAZHUP_FRAME_CHIPS(mode, 1) - LERNAZHUP_FRAME_CHIPS(mode, 0)) / LERNAZHUP_SYMBOL_CHIPS(mode);
 }
 
-lernazhup_reading read_frame(int checked, uint32_t mode, const uint8_t *chips, size_t length, uint8_t *report)
+/* Has the capture read as far as the mode wants it for a frame that begins at a chip, and gives
+ * what the mode's receiver then is. */
+static lernazhup_receiver receive(struct input *capture, size_t at, uint32_t mode)
 {
-    return checked ? lernazhup_read_checked(mode, chips, length, report, LERNAZHUP_REPORT_MAX)
-                   : lernazhup_read(mode, chips, length, report, LERNAZHUP_REPORT_MAX);
-}
-
-/* Has the capture read as far as the mode wants it, and gives what the mode's receiver then is. */
-static lernazhup_receiver receive(struct input *capture, uint32_t mode)
-{
-    size_t size = LERNAZHUP_SYMBOL_CHIPS(mode), at;
+    size_t size = LERNAZHUP_SYMBOL_CHIPS(mode);
     lernazhup_receiver receiver;
     uint32_t number = lernazhup_start_into(&receiver, mode);
-    for (at = 0; number == LERNAZHUP_MORE && input_has(capture, at + size); at += size)
+    for (; number == LERNAZHUP_MORE && input_has(capture, at + size); at += size)
         number = lernazhup_push_into(&receiver, capture->bytes + at, size);
     return receiver;
 }
 
+static lernazhup_reading read_what_came(int checked, uint32_t mode, const struct input *capture, size_t at, uint8_t *report)
+{
+    const uint8_t *chips = capture->bytes + at;
+    size_t length = capture->have - at;
+    return checked ? lernazhup_read_checked(mode, chips, length, report, LERNAZHUP_REPORT_MAX)
+                   : lernazhup_read(mode, chips, length, report, LERNAZHUP_REPORT_MAX);
+}
+
+lernazhup_reading read_frame(int checked, uint32_t mode, struct input *capture, size_t at, uint8_t *report)
+{
+    lernazhup_reading reading = read_what_came(checked, mode, capture, at, report);
+    if (reading.number != LERNAZHUP_RUNOUT || capture->ended)
+        return reading;
+    receive(capture, at, mode);
+    return read_what_came(checked, mode, capture, at, report);
+}
+
+static int all_zero(const uint8_t *octets, size_t count)
+{
+    size_t k = 0;
+    while (k < count && octets[k] == 0)
+        k++;
+    return count > 0 && k == count;
+}
+
 static void try_mode(struct outcome *outcome, struct input *capture, uint32_t mode, int checked)
 {
-    lernazhup_receiver receiver = receive(capture, mode);
+    lernazhup_receiver receiver = receive(capture, 0, mode);
     outcome->mode = mode;
     outcome->sized = receiver.taken >= REPORT_AT * symbols_of_an_octet(mode);
     outcome->least = LERNAZHUP_FRAME_CHIPS(mode, receiver.length); /* 0 before it is read */
-    outcome->reading = read_frame(checked, mode, capture->bytes, capture->have, outcome->report);
-    outcome->check = 0;
+    outcome->reading = read_what_came(checked, mode, capture, 0, outcome->report);
+    outcome->check = outcome->zeros = 0;
     outcome->left = -1;
     if (outcome->reading.number == LERNAZHUP_DONE) {
         outcome->check = lernazhup_check(outcome->report, outcome->reading.n);
+        outcome->zeros = all_zero(outcome->report, outcome->reading.n);
         outcome->left = left_over(capture, outcome->least);
     }
 }

@@ -17,6 +17,7 @@ struct outcome {
     int sized;      /* whether the frame's length octet was read */
     size_t least;   /* chips of the frame; where that was not read, of the shortest in this mode */
     uint32_t check; /* of a report, what lernazhup_check says of it */
+    int zeros;      /* of a report, whether it has octets, and all are 0 */
     long long left; /* of a report, bytes behind the frame; -1 where that can't be told */
     uint8_t report[LERNAZHUP_REPORT_MAX];
 };
@@ -32,9 +33,9 @@ struct outcomes {
  * chips. */
 void try_modes(struct outcomes *outcomes, struct input *capture, uint32_t mode, int checked);
 
-/* The frame that the chips begin with, in the profile. The report has room for
- * LERNAZHUP_REPORT_MAX octets. */
-lernazhup_reading read_frame(int checked, uint32_t mode, const uint8_t *chips, size_t length, uint8_t *report);
+/* The frame that begins at a chip, in the profile. Reads on as far as the mode wants more chips.
+ * The report has room for LERNAZHUP_REPORT_MAX octets. */
+lernazhup_reading read_frame(int checked, uint32_t mode, struct input *capture, size_t at, uint8_t *report);
 
 /* The parts of a frame, and what is behind it. */
 enum part { PREAMBLE, START, LENGTH, REPORT, END };

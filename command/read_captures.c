@@ -14,21 +14,6 @@ static const char *told_name(const char *name)
     return strcmp(name, "-") == 0 ? "standard input" : name;
 }
 
-/* What came of a capture; 0, or why it can't be read. */
-static int examine(struct account *account, struct input *capture, const struct arguments *asked)
-{
-    int failed = open_input(capture, account->name);
-    if (failed != 0)
-        return failed;
-    account->capture = capture;
-    account->hints.count = 0;
-    try_modes(&account->outcomes, capture, asked->mode, asked->checked);
-    if (account->outcomes.read == 0)
-        find_hints(&account->hints, capture, &account->outcomes);
-    close_input(capture);
-    return capture->failed;
-}
-
 static enum status tell_failure(const struct arguments *asked, const char *name, const char *why)
 {
     complain(told_name(name), why);
@@ -37,14 +22,22 @@ static enum status tell_failure(const struct arguments *asked, const char *name,
     return USELESS;
 }
 
-static enum status tell(const struct arguments *asked, struct account *account)
+/* Refusals are told before hints are looked for: on a stream these may wait for more chips. */
+static enum status tell(const struct arguments *asked, struct account *account, struct input *capture)
 {
-    if (asked->json) {
-        tell_in_json(stdout, account);
-    } else {
-        account->name = told_name(account->name);
-        tell_in_words(stdout, account);
+    if (!asked->json)
+        tell_outcomes(stdout, account);
+    account->hints.count = 0;
+    if (account->outcomes.read == 0) {
+        fflush(stdout);
+        find_hints(&account->hints, capture, &account->outcomes);
     }
+    if (capture->failed != 0) /* in the chips that hints wanted */
+        return tell_failure(asked, account->name, strerror(capture->failed));
+    if (asked->json)
+        tell_in_json(stdout, account);
+    else
+        tell_hints(stdout, account);
     return account->outcomes.read > 0 ? GOOD : REFUSED;
 }
 
@@ -62,25 +55,35 @@ static void progress(size_t at, size_t count, int shown)
     fflush(stderr);
 }
 
+static enum status read_capture(const struct arguments *asked, const char *name, size_t at, size_t count)
+{
+    static struct input capture;
+    struct account account;
+    enum status status;
+    int failed;
+    account.name = asked->json ? name : told_name(name);
+    account.capture = &capture;
+    progress(at, count, 1);
+    failed = open_input(&capture, name);
+    if (failed == 0)
+        try_modes(&account.outcomes, &capture, asked->mode, asked->checked);
+    progress(at, count, 0);
+    if (failed != 0)
+        return tell_failure(asked, name, strerror(failed));
+    status = capture.failed != 0 ? tell_failure(asked, name, strerror(capture.failed)) : tell(asked, &account, &capture);
+    close_input(&capture);
+    return status;
+}
+
 enum status read_captures(const struct arguments *asked)
 {
-    static char *standard_input[] = {"-"};
-    static struct input capture;
-    char **names = asked->count > 0 ? asked->names : standard_input;
-    size_t count = asked->count > 0 ? asked->count : 1, k;
-    enum status status = GOOD;
-    for (k = 0; k < count; k++) {
-        struct account account;
-        enum status one;
-        int failed;
-        account.name = names[k];
-        progress(k, count, 1);
-        failed = examine(&account, &capture, asked);
-        progress(k, count, 0);
-        one = failed != 0 ? tell_failure(asked, names[k], strerror(failed)) : tell(asked, &account);
+    enum status status = asked->count > 0 ? GOOD : read_capture(asked, "-", 0, 1);
+    size_t k;
+    for (k = 0; k < asked->count; k++) {
+        enum status one = read_capture(asked, asked->names[k], k, asked->count);
         status = one > status ? one : status;
         if (!written_out())
             return USELESS;
     }
-    return status;
+    return written_out() ? status : USELESS;
 }

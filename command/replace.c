@@ -34,9 +34,11 @@ static int write_all(int descriptor, const uint8_t *bytes, size_t length)
  * gave the new file goes. */
 static int keep_access(int descriptor, const char *name, const struct stat *old)
 {
-    char list[4096];
+    static char list[65536]; /* as long as the system lets one be */
     ssize_t size = getxattr(name, ACCESS_LIST, list, sizeof list);
-    if (size <= 0)
+    if (size < 0 && errno != ENODATA && errno != ENOTSUP)
+        return 0;
+    if (size < 0)
         fremovexattr(descriptor, ACCESS_LIST);
     else if (fsetxattr(descriptor, ACCESS_LIST, list, (size_t)size, 0) != 0)
         return 0;

@@ -39,12 +39,18 @@ static int control(long code)
     return code < 0x20 || (code >= 0x7f && code < 0xa0);
 }
 
+/* What begins a line or turns the direction of writing, and so shows another name. */
+static int turning(long code)
+{
+    return code == 0x200e || code == 0x200f || (code >= 0x2028 && code <= 0x202e) || (code >= 0x2066 && code <= 0x2069);
+}
+
 void show_name(FILE *out, const char *name)
 {
     size_t length;
     for (; *name != 0; name += length) {
         long code = character((const unsigned char *)name, &length);
-        if (code < 0 || control(code))
+        if (code < 0 || control(code) || turning(code))
             putc('.', out);
         else
             fwrite(name, 1, length, out);

@@ -6,7 +6,8 @@
 #include <stdint.h>
 #include <stdio.h>
 
-/* A name, on a terminal: control characters, and bytes that are no UTF-8, as dots. */
+/* A name, on a terminal: bytes that are no UTF-8, control characters, and those that turn the
+ * direction of writing, as dots. */
 void show_name(FILE *out, const char *name);
 
 /* A name as a string of JSON, with its quotes: bytes that are no UTF-8 as U+FFFD. */

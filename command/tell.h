@@ -15,8 +15,10 @@ struct account {
     struct hints hints; /* none where a mode gave a report */
 };
 
-/* In words: each report; where there is none, each mode's refusal, and the hints. */
-void tell_in_words(FILE *out, const struct account *account);
+/* In words: each report, or where there is none each mode's refusal; then the hints, which may have
+ * to wait for more chips. */
+void tell_outcomes(FILE *out, const struct account *account);
+void tell_hints(FILE *out, const struct account *account);
 
 /* The same fields as one object of JSON on one line; and that of a file which can't be read. */
 void tell_in_json(FILE *out, const struct account *account);

@@ -43,7 +43,12 @@ static void tell_report(FILE *out, const struct outcome *done)
     fprintf(out, "\"repaired\":%u,\"chips\":%zu,\"gap\":%u,\"best_gap\":%u,\"closeness\":\"%s\",\"polarity\":%u,",
             (unsigned)done->reading.count, done->least, (unsigned)done->reading.gap, (unsigned)best_gap(done->mode),
             closeness[closeness_of(done)], (unsigned)done->reading.polarity);
-    fprintf(out, "\"fcs\":\"%s\",\"all_zero\":%s,\"left_over\":", fcs_of(done), done->check == LERNAZHUP_ALLZERO ? "true" : "false");
+    fprintf(out, "\"fcs\":\"%s\",", fcs_of(done));
+    if (done->check != LERNAZHUP_TOOFEW) {
+        uint32_t right = lernazhup_fcs(done->report, done->reading.n - 2);
+        fprintf(out, "\"right_fcs\":\"%02x%02x\",", (unsigned)(right & 0xff), (unsigned)(right >> 8));
+    }
+    fprintf(out, "\"all_zero\":%s,\"left_over\":", done->zeros ? "true" : "false");
     if (done->left < 0)
         fputs("null}", out);
     else
@@ -70,7 +75,7 @@ static void tell_hint(FILE *out, const struct hint *hint)
 }
 
 /* The outcomes of one kind: reports, or refusals where there is no report. */
-static void tell_outcomes(FILE *out, const struct account *account, int reports)
+static void tell_list(FILE *out, const struct account *account, int reports)
 {
     const struct outcomes *outcomes = &account->outcomes;
     const char *between = "";
@@ -96,9 +101,9 @@ void tell_in_json(FILE *out, const struct account *account)
     fputs("{\"file\":", out);
     show_json(out, account->name);
     fprintf(out, ",\"profile\":\"%s\",\"reports\":[", account->outcomes.checked ? "checked" : "plain");
-    tell_outcomes(out, account, 1);
+    tell_list(out, account, 1);
     fputs("],\"refusals\":[", out);
-    tell_outcomes(out, account, 0);
+    tell_list(out, account, 0);
     fputs("],\"hints\":[", out);
     for (k = 0; k < account->hints.count; k++) {
         fputs(k > 0 ? "," : "", out);

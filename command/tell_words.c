@@ -42,8 +42,7 @@ static void tell_fcs(FILE *out, const struct outcome *done)
         fprintf(out, "  FCS        wrong, or none was sent: it ends in %02x %02x, and an FCS would be %02x %02x\n", done->report[n - 2],
                 done->report[n - 1], (unsigned)(right & 0xff), (unsigned)(right >> 8));
     } else {
-        fprintf(out, "  FCS        right, the last two octets%s\n",
-                done->check == LERNAZHUP_ALLZERO ? "; but every octet is 0: is the rope plugged in?" : "");
+        fputs("  FCS        right, the last two octets\n", out);
     }
 }
 
@@ -57,8 +56,10 @@ static void tell_report(FILE *out, const struct account *account, const struct o
     tell_gap(out, done);
     fprintf(out, "  polarity   %u, %s\n", (unsigned)done->reading.polarity, done->reading.polarity == 0 ? "as sent" : "inverted");
     tell_fcs(out, done);
+    if (done->zeros)
+        fputs("  zeros      every octet is 0: is the rope plugged in?\n", out);
     if (done->left >= 0)
-        fprintf(out, "  left over  %lld chip%s\n", done->left, done->left == 1 ? "" : "s");
+        fprintf(out, "  left over  %lld byte%s\n", done->left, done->left == 1 ? "" : "s");
 }
 
 /* Which octet of the frame, and what that is there. */
@@ -81,7 +82,7 @@ static void tell_refusal(FILE *out, const struct account *account, const struct 
     tell_place(out, place);
 }
 
-void tell_in_words(FILE *out, const struct account *account)
+void tell_outcomes(FILE *out, const struct account *account)
 {
     const struct outcomes *outcomes = &account->outcomes;
     size_t k;
@@ -94,6 +95,11 @@ void tell_in_words(FILE *out, const struct account *account)
             tell_report(out, account, &outcomes->of[k]);
         else if (outcomes->read == 0)
             tell_refusal(out, account, &outcomes->of[k]);
+}
+
+void tell_hints(FILE *out, const struct account *account)
+{
+    size_t k;
     for (k = 0; k < account->hints.count; k++) {
         fputs("  hint: ", out);
         put_hint(out, &account->hints.list[k]);

@@ -160,6 +160,7 @@ static void make_capture(struct made *made, const struct arguments *asked)
     made->checked = asked->checked;
     made->mode = asked->mode == EVERY_MODE ? draw(MODES) : asked->mode;
     made->before = made->how == LATE ? 1 + draw(40) : 0;
+    made_input(&capture);
     capture.have = draw(draw(64) > 0 ? 40 : 400);
     if (made->how >= FRAME)
         make_frame(made);
@@ -211,8 +212,11 @@ static void check_made(const struct made *made, const struct account *account)
     demand(made->how != AS_DIGITS || hints_frame(made, hint_of(account, DIGITS)), "digits are not hinted at");
     demand(made->how != AS_BITS || hints_frame(made, low) || hints_frame(made, high), "packed bits are not hinted at");
     demand(made->how != FLAT_ALL || hint_of(account, FLAT) != NULL, "flat chips are not hinted at");
+    demand(made->how != FLAT_END || outcome->reading.number != LERNAZHUP_LOST || hint_of(account, FLAT_FROM) != NULL || hint_of(account, FLAT) != NULL,
+           "chips flat to the end are not hinted at");
     demand(made->how != CUT || hint_of(account, SHORT) != NULL, "a frame cut short is not hinted at");
-    demand(made->how != BAD_BYTE || hint_of(account, BYTES) != NULL || low != NULL || high != NULL, "a byte is not hinted at");
+    demand(made->how != BAD_BYTE || outcome->reading.number != LERNAZHUP_NOCHIP || hint_of(account, BYTES) != NULL || low != NULL || high != NULL,
+           "a byte that ended the reading is not hinted at");
 }
 
 /* What a hint says of the bytes, looked at once more. */
@@ -230,8 +234,7 @@ static void check_hint(const struct account *account, const struct hint *hint)
     case DIGITS: demand(text == capture.have, "digits, and something else"); break;
     case LATER:
         demand(hint->at > 0 && hint->at < LERNAZHUP_CHIPS_MAX && hint->at < capture.have, "later than is looked at");
-        demand(read_frame(account->outcomes.checked, hint->mode, capture.bytes + hint->at, capture.have - hint->at, report).number ==
-                   LERNAZHUP_DONE,
+        demand(read_frame(account->outcomes.checked, hint->mode, &capture, hint->at, report).number == LERNAZHUP_DONE,
                "later, and doesn't read there");
         break;
     case BYTES: demand(above == hint->count && capture.bytes[hint->at] > 1, "bytes counted wrongly"); break;
@@ -318,7 +321,12 @@ static void check_told(const struct account *account, int json)
     if (out == NULL)
         out = open_memstream(&told, &size);
     rewind(out);
-    (json ? tell_in_json : tell_in_words)(out, account);
+    if (json)
+        tell_in_json(out, account);
+    else
+        tell_outcomes(out, account);
+    if (!json)
+        tell_hints(out, account);
     putc(0, out);
     fflush(out);
     for (k = 0; k + 1 < size; k++)
@@ -347,8 +355,10 @@ static void try_input(void)
     demand(account.hints.count <= HINTS_MAX, "more hints than there is room for");
     check_made(&made, &account);
     check_places(&account);
-    for (k = 0; k < account.hints.count; k++)
+    for (k = 0; k < account.hints.count; k++) {
         check_hint(&account, &account.hints.list[k]);
+        demand(!hint_reads(&account.hints.list[k]) || hint_of(&account, SHORT) == NULL, "too short, and reads");
+    }
     check_told(&account, (int)draw(2));
 }
 
@@ -361,8 +371,6 @@ int main(int count, char **arguments)
         return 2;
     }
     state = seed * 0x9e3779b97f4a7c15u + 1;
-    capture.ended = 1;
-    capture.began = -1;
     for (input_number = 0; input_number < inputs; input_number++)
         try_input();
     printf("fuzz: %llu inputs of seed %llu, nothing wrong\n", inputs, seed);

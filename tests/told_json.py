@@ -14,13 +14,10 @@ def text_of(octets):
     return "".join(chr(octet) if 0x20 <= octet < 0x7F else "." for octet in octets)
 
 
-def fcs_of(octets):
-    """What the FCS is called, by another CRC: binascii's is the ITU-T's, highest bit first."""
-    if len(octets) < 3:
-        return "too short"
-    turned = bytes(int(f"{octet:08b}"[::-1], 2) for octet in octets[:-2])
-    fcs = int(f"{binascii.crc_hqx(turned, 0):016b}"[::-1], 2)
-    return "right" if octets[-2:] == fcs.to_bytes(2, "little") else "wrong"
+def right_fcs(octets):
+    """The FCS by another CRC: binascii's is the ITU-T's, highest bit first."""
+    turned = bytes(int(f"{octet:08b}"[::-1], 2) for octet in octets)
+    return int(f"{binascii.crc_hqx(turned, 0):016b}"[::-1], 2).to_bytes(2, "little")
 
 
 def check_report(report, numbers):
@@ -30,8 +27,13 @@ def check_report(report, numbers):
     assert told == numbers, (told, numbers)
     assert report["chips"] == octet_chips * (6 + len(octets)) and report["n"] == len(octets)
     assert report["text"] == text_of(octets)
-    assert report["fcs"] == fcs_of(octets)
-    assert report["all_zero"] == (report["fcs"] == "right" and not any(octets))
+    if len(octets) < 3:
+        assert report["fcs"] == "too short" and "right_fcs" not in report
+    else:
+        right = right_fcs(octets[:-2])
+        assert bytes.fromhex(report["right_fcs"]) == right
+        assert report["fcs"] == ("right" if octets[-2:] == right else "wrong")
+    assert report["all_zero"] == (len(octets) > 0 and not any(octets))
     assert report["left_over"] == 0
 
 
