@@ -4,14 +4,14 @@
 # make send       a report to a raw capture: MODE=0, 1 or 2, PROFILE=plain or checked (the
 #                 environment's too), REPORT=file, OUT=file
 # make check      programs, library and tests from outside: two or three minutes, less where all
-#                 is proved already; SEED=.. and CASES=.. repeat a comparison
+#                 is proved already; SEED=.. and CASES=.. repeat a comparison, SEED=.. the fuzzer
 # make test       the gate: make check, then every proof from nothing (`rt ci`)
 # make lib        build/liblernazhup.a, build/lernazhup.h and build/lernazhup.pc, for C
 # make shared     build/liblernazhup.so
 # make install    what `make lib` builds, and the command with its manual page and completion, under
 #                 PREFIX (/usr/local), or libdir, includedir, bindir, mandir and datadir, with
 #                 DESTDIR before them; `make install-shared` the shared library
-# make uninstall  takes both away from there
+# make uninstall  takes all that away from there
 # make speed      times against C, stack and sizes
 # make instructions  the library against C in instructions, by an emulator: some minutes
 # make clean      removes all that was built, and what `rt` keeps of its proofs
@@ -116,6 +116,7 @@ outside: $(SINGLE) build/compare build/speed $(SHARED) build/lernazhup build/ler
 	tests/send-test && \
 	tests/bench-test && \
 	tests/example-test && \
+	tests/command-help-test && \
 	tests/command-read-test && \
 	tests/command-write-test && \
 	tests/fuzz-test "$$SEED" && \
@@ -157,7 +158,7 @@ command: build/lernazhup
 build/lernazhup: $(COMMAND) $(wildcard command/*.h) build/lernazhup.h $(ARCHIVE) $(TOOLS)
 	@$(CC) $(CFLAGS) -Ibuild $(COMMAND) $(ARCHIVE) -o $@
 
-# for its tests
+# for its tests; what makes the command anew makes them anew
 build/lernazhup-sanitized: build/lernazhup
 	@flags=$$(tools/sanitizer-flags) && $(CC) $(CFLAGS) -Ibuild -g $$flags $(COMMAND) $(ARCHIVE) -o $@
 

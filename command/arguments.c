@@ -6,13 +6,14 @@
 #include <string.h>
 
 #include "lernazhup.h"
+#include "modes.h"
 
 struct words {
     char **rest; /* those that are not looked at yet */
     size_t count;
 };
 
-static void complain(struct arguments *asked, const char *wrong, const char *word)
+static void mistake(struct arguments *asked, const char *wrong, const char *word)
 {
     if (asked->wrong == NULL) {
         asked->wrong = wrong;
@@ -26,17 +27,17 @@ static uint32_t mode_of(const char *text)
 {
     uint32_t mode = 0;
     if (*text == 0)
-        return EVERY_MODE;
+        return NO_MODE;
     for (; *text >= '0' && *text <= '9'; text++)
         mode = mode < 1000 ? 10 * mode + (uint32_t)(*text - '0') : mode;
-    return *text == 0 && LERNAZHUP_SYMBOL_CHIPS(mode) > 0 ? mode : EVERY_MODE;
+    return *text == 0 && LERNAZHUP_SYMBOL_CHIPS(mode) > 0 ? mode : NO_MODE;
 }
 
 static void take_mode(struct arguments *asked, const char *value)
 {
     asked->mode = mode_of(value);
-    if (asked->mode == EVERY_MODE)
-        complain(asked, "is no mode: there are 0, 1 and 2", value);
+    if (asked->mode == NO_MODE)
+        mistake(asked, "is no mode: there are 0, 1 and 2", value);
 }
 
 /* What an option wants: the rest of its word, or else the next one. */
@@ -45,32 +46,30 @@ static const char *value_of(struct arguments *asked, const char *rest, const cha
     if (*rest != 0)
         return rest;
     if (words->count == 0) {
-        complain(asked, "wants a word behind it", option);
+        mistake(asked, "wants a word behind it", option);
         return NULL;
     }
     words->count--;
     return *words->rest++;
 }
 
-/* A word of one letter options. */
+/* A word of one letter options. One that wants a value is the last of its word. */
 static void take_letters(struct arguments *asked, const char *word, struct words *words)
 {
-    const char *letter;
-    for (letter = word + 1; *letter != 0; letter++) {
-        if (*letter == 'c') {
-            asked->checked = 1;
-        } else if (*letter == 'm' || (*letter == 'o' && asked->verb == WRITE)) {
-            const char *value = value_of(asked, letter + 1, word, words);
-            if (value != NULL && *letter == 'm')
-                take_mode(asked, value);
-            else
-                asked->capture = value;
-            return;
-        } else {
-            complain(asked, "is no option here", word);
-            return;
-        }
+    const char *letter = word + 1, *value;
+    for (; *letter == 'c'; letter++)
+        asked->checked = 1;
+    if (*letter == 0)
+        return;
+    if (*letter != 'm' && (*letter != 'o' || asked->verb != WRITE)) {
+        mistake(asked, "is no option here", word);
+        return;
     }
+    value = value_of(asked, letter + 1, word, words);
+    if (*letter == 'o')
+        asked->capture = value;
+    else if (value != NULL)
+        take_mode(asked, value);
 }
 
 static void take_option(struct arguments *asked, const char *word, struct words *words)
@@ -80,7 +79,7 @@ static void take_option(struct arguments *asked, const char *word, struct words 
     else if (strcmp(word, "--json") == 0 && asked->verb == READ)
         asked->json = 1;
     else if (word[1] == '-')
-        complain(asked, "is no option here", word);
+        mistake(asked, "is no option here", word);
     else
         take_letters(asked, word, words);
 }
@@ -112,25 +111,24 @@ static int take_verb(struct arguments *asked, const char *word)
     else if (strcmp(word, "write") == 0)
         asked->verb = WRITE;
     else if (strcmp(word, "--help") != 0)
-        complain(asked, "is neither read nor write", word);
+        mistake(asked, "is neither read nor write", word);
     return asked->verb == READ || asked->verb == WRITE;
 }
 
 struct arguments parse_arguments(int count, char **words)
 {
-    struct arguments asked = {HELP, EVERY_MODE, 0, 0, NULL, NULL, 0, NULL, NULL};
-    struct words rest = {words + 2, count > 2 ? (size_t)count - 2 : 0};
+    struct arguments asked = {HELP, NO_MODE, 0, 0, NULL, NULL, 0, NULL, NULL};
     if (count < 2) {
-        complain(&asked, "read or write?", NULL);
+        mistake(&asked, "read or write?", NULL);
         return asked;
     }
-    if (take_verb(&asked, words[1]))
+    if (take_verb(&asked, words[1])) {
+        struct words rest = {words + 2, (size_t)count - 2};
         take_words(&asked, rest);
-    if (asked.verb == HELP && asked.wrong == NULL)
-        asked.count = 0;
-    if (asked.verb == WRITE && asked.mode == EVERY_MODE)
-        complain(&asked, "write wants a mode: -m 0, -m 1 or -m 2", NULL);
+    }
+    if (asked.verb == WRITE && asked.mode == NO_MODE)
+        mistake(&asked, "write wants a mode: -m 0, -m 1 or -m 2", NULL);
     if (asked.verb == WRITE && asked.count > 1)
-        complain(&asked, "is one report too many: a capture has one", asked.names[1]);
+        mistake(&asked, "is one report too many: a capture has one", asked.names[1]);
     return asked;
 }

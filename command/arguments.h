@@ -7,12 +7,9 @@
 
 enum verb { HELP, VERSION, READ, WRITE };
 
-/* In place of a mode where none is named. */
-#define EVERY_MODE UINT32_MAX
-
 struct arguments {
     enum verb verb;
-    uint32_t mode;       /* that of -m, which a radio has, or EVERY_MODE */
+    uint32_t mode;       /* that of -m; NO_MODE where none is named */
     int checked;         /* -c */
     int json;            /* --json */
     const char *capture; /* that of -o; a null pointer where there is none */

@@ -1,15 +1,15 @@
 # Completion of `lernazhup` for bash: verbs, options, modes, and else names of files.
 _lernazhup() {
-    local word=${COMP_WORDS[COMP_CWORD]} before=${COMP_WORDS[COMP_CWORD - 1]} verb=${COMP_WORDS[1]} choices
+    local word=${COMP_WORDS[COMP_CWORD]} before=${COMP_WORDS[COMP_CWORD - 1]} choices=''
+    case ${COMP_WORDS[1]} in
+    read) choices='-m -c --json --help' ;;
+    write) choices='-m -c -o --help' ;;
+    esac
     if [[ $COMP_CWORD -eq 1 ]]; then
         choices='read write --help --version'
-    elif [[ $before == -*m ]]; then
+    elif [[ $before == -m || $before == -cm ]]; then
         choices='0 1 2'
-    elif [[ $word == -* && $verb == read ]]; then
-        choices='-m -c --json --help'
-    elif [[ $word == -* && $verb == write ]]; then
-        choices='-m -c -o --help'
-    else
+    elif [[ $word != -* || $before == -o || " ${COMP_WORDS[*]:0:COMP_CWORD} " == *' -- '* ]]; then
         return # bash completes names of files by itself
     fi
     mapfile -t COMPREPLY < <(compgen -W "$choices" -- "$word")

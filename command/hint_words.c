@@ -1,5 +1,4 @@
 /* Hints in words, for those who stand at the bench. */
-#include "arguments.h"
 #include "hints.h"
 
 const char *hint_name(const struct hint *hint)
@@ -22,15 +21,15 @@ const char *hint_name(const struct hint *hint)
 
 int hint_reads(const struct hint *hint)
 {
-    return hint->mode != EVERY_MODE && hint->kind != SHORT;
+    return hint->mode != NO_MODE && hint->kind != SHORT;
 }
 
 /* In which mode it reads, and from where on. */
 static void put_reading(FILE *out, const struct hint *hint)
 {
     fprintf(out, "in mode %u", (unsigned)hint->mode);
-    if (hint->at > 0)
-        fprintf(out, " when started %zu chip%s later", hint->at, hint->at == 1 ? "" : "s");
+    if (hint->later > 0)
+        fprintf(out, " when started %zu chip%s later", hint->later, hint->later == 1 ? "" : "s");
 }
 
 static void put_digits(FILE *out, const struct hint *hint)
@@ -51,11 +50,11 @@ static void put_packed(FILE *out, const struct hint *hint)
 
 static void put_short(FILE *out, const struct hint *hint)
 {
-    if (hint->value)
+    if (hint->sized)
         fprintf(out, "too short: by its length octet this mode %u frame has", (unsigned)hint->mode);
     else
         fprintf(out, "too short: a mode %u frame has at least", (unsigned)hint->mode);
-    fprintf(out, " %zu chips, and %zu bytes came", hint->count, hint->looked);
+    fprintf(out, " %zu chips, and %zu came", hint->wanted, hint->looked);
 }
 
 void put_hint(FILE *out, const struct hint *hint)
@@ -66,7 +65,7 @@ void put_hint(FILE *out, const struct hint *hint)
     case LATER:
         fputs("a frame reads ", out);
         put_reading(out, hint);
-        fprintf(out, ": tail -c +%zu leaves those out", hint->at + 1);
+        fprintf(out, ": tail -c +%zu leaves those out", hint->later + 1);
         break;
     case OTHER_MODE: fprintf(out, "it reads in mode %u", (unsigned)hint->mode); break;
     case CHECK:
@@ -77,11 +76,12 @@ void put_hint(FILE *out, const struct hint *hint)
     case PACKED_LOW:
     case PACKED_HIGH: put_packed(out, hint); break;
     case BYTES:
-        fprintf(out, "%zu of the %zu bytes looked at are neither 0 nor 1, the first of them byte %zu", hint->count, hint->looked, hint->at);
+        fprintf(out, "bytes that are neither 0 nor 1: %zu of the %zu looked at, the first of them byte %zu", hint->count, hint->looked,
+                hint->from);
         break;
-    case FLAT: fprintf(out, "all %zu chips looked at are %u: is the aerial plugged in?", hint->count, hint->value); break;
+    case FLAT: fprintf(out, "all %zu chips looked at are %u: is the aerial plugged in?", hint->count, hint->chip); break;
     case FLAT_FROM:
-        fprintf(out, "from byte %zu on all %zu chips looked at are %u: was the aerial pulled?", hint->at, hint->count, hint->value);
+        fprintf(out, "from byte %zu on all %zu chips looked at are %u: was the aerial pulled?", hint->from, hint->count, hint->chip);
         break;
     case SHORT: put_short(out, hint); break;
     }

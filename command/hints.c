@@ -2,17 +2,17 @@
  * are instead. A frame is found by reading there. */
 #include "hints.h"
 
-#include "arguments.h"
+#include <string.h>
+
 #include "lernazhup.h"
 
 static struct hint *add(struct hints *hints, enum hint_kind kind, const struct input *capture)
 {
     struct hint *hint = &hints->list[hints->count++];
+    memset(hint, 0, sizeof *hint);
     hint->kind = kind;
-    hint->mode = EVERY_MODE;
-    hint->at = hint->count = 0;
+    hint->mode = NO_MODE;
     hint->looked = capture->have;
-    hint->value = 0;
     return hint;
 }
 
@@ -31,7 +31,7 @@ static int find_frame(struct hints *hints, enum hint_kind kind, struct input *ch
             if (read_frame(checked, mode, chips, at, report).number == LERNAZHUP_DONE) {
                 struct hint *hint = add(hints, kind, chips);
                 hint->mode = mode;
-                hint->at = at;
+                hint->later = at;
                 return 1;
             }
         }
@@ -111,11 +111,6 @@ static int packed(struct hints *hints, const struct input *capture, const struct
     return find_frame(hints, PACKED_HIGH, &chips, 0, tried);
 }
 
-static size_t chips_read(const struct outcome *refused)
-{
-    return (size_t)refused->reading.place * LERNAZHUP_SYMBOL_CHIPS(refused->mode);
-}
-
 /* Of the modes that ended with a number, the one that got farthest; a null pointer where none
  * did. */
 static const struct outcome *farthest(const struct outcomes *refused, uint32_t number)
@@ -124,7 +119,7 @@ static const struct outcome *farthest(const struct outcomes *refused, uint32_t n
     size_t k;
     for (k = 0; k < refused->tried; k++) {
         const struct outcome *outcome = &refused->of[k];
-        if (outcome->reading.number == number && (best == NULL || chips_read(outcome) > chips_read(best)))
+        if (outcome->reading.number == number && (best == NULL || refused_at(outcome) > refused_at(best)))
             best = outcome;
     }
     return best;
@@ -138,7 +133,7 @@ static void no_chips(struct hints *hints, const struct input *capture, const str
     if (at == capture->have || (farthest(refused, LERNAZHUP_NOCHIP) == NULL && farthest(refused, LERNAZHUP_RUNOUT) == NULL))
         return;
     hint = add(hints, BYTES, capture);
-    hint->at = at;
+    hint->from = at;
     for (; at < capture->have; at++)
         hint->count += capture->bytes[at] > 1;
 }
@@ -155,12 +150,12 @@ static void flat(struct hints *hints, const struct input *capture, const struct 
     while (from > 0 && capture->bytes[from - 1] == capture->bytes[from])
         from--;
     size = LERNAZHUP_SYMBOL_CHIPS(lost->mode);
-    if (from >= chips_read(lost) + size || capture->have - from < size)
+    if (from >= refused_at(lost) + size || capture->have - from < size)
         return;
     hint = add(hints, from == 0 ? FLAT : FLAT_FROM, capture);
-    hint->at = from;
+    hint->from = from;
     hint->count = capture->have - from;
-    hint->value = capture->bytes[from];
+    hint->chip = capture->bytes[from];
 }
 
 /* The frame that a capture may be too short for: one that chips ran out in, or one whose length was
@@ -174,7 +169,7 @@ static const struct outcome *wanted(const struct outcomes *refused)
     for (k = 0; k < refused->tried; k++) {
         if (refused->of[k].sized)
             return &refused->of[k];
-        if (refused->of[k].least < shortest->least)
+        if (refused->of[k].chips < shortest->chips)
             shortest = &refused->of[k];
     }
     return shortest;
@@ -183,11 +178,11 @@ static const struct outcome *wanted(const struct outcomes *refused)
 static void too_short(struct hints *hints, const struct input *capture, const struct outcomes *refused)
 {
     const struct outcome *frame = wanted(refused);
-    if (capture->have < frame->least) {
+    if (capture->have < frame->chips) {
         struct hint *hint = add(hints, SHORT, capture);
         hint->mode = frame->mode;
-        hint->count = frame->least;
-        hint->value = frame->sized ? 1 : 0;
+        hint->wanted = frame->chips;
+        hint->sized = frame->sized;
     }
 }
 
@@ -215,6 +210,6 @@ void find_hints(struct hints *hints, struct input *capture, const struct outcome
     if (refused->checked)
         find_frame(hints, CHECK, capture, 0, refused);
     find_frame(hints, LATER, capture, 1, refused);
-    if (hints->count == 0 || hints->list[0].at > 0)
+    if (hints->count == 0 || hints->list[0].later > 0)
         find_facts(hints, capture, refused);
 }

@@ -26,11 +26,14 @@ enum hint_kind {
 
 struct hint {
     enum hint_kind kind;
-    uint32_t mode;  /* in which it reads or is too short; EVERY_MODE where there is none */
-    size_t at;      /* how many chips later it reads; or the first byte that the hint is about */
-    size_t count;   /* how many bytes it is about; of SHORT, the chips of the frame */
-    size_t looked;  /* how many bytes were looked at */
-    unsigned value; /* of flat chips; of SHORT, whether the length octet was read */
+    uint32_t mode; /* in which a frame reads, or is too long; NO_MODE where there is none */
+    size_t later;  /* how many chips later that frame begins */
+    size_t looked; /* how many bytes were looked at */
+    size_t from;   /* the first of the bytes that the hint is about */
+    size_t count;  /* how many these are */
+    unsigned chip; /* the value of flat ones */
+    size_t wanted; /* of a frame that is too long, its chips */
+    int sized;     /* of such a frame, whether its length octet was read */
 };
 
 #define HINTS_MAX 4

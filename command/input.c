@@ -27,17 +27,11 @@ int open_input(struct input *input, const char *name)
     input->descriptor = input->own ? open(name, O_RDONLY | O_NOCTTY | O_CLOEXEC) : STDIN_FILENO;
     if (input->descriptor < 0)
         return errno;
-    if (fstat(input->descriptor, &kind) != 0)
-        input->failed = errno;
-    else if (S_ISDIR(kind.st_mode))
-        input->failed = EISDIR;
-    else if (S_ISREG(kind.st_mode)) {
+    if (fstat(input->descriptor, &kind) == 0 && S_ISREG(kind.st_mode)) {
         input->ahead = input->own;
         input->began = lseek(input->descriptor, 0, SEEK_CUR);
     }
-    if (input->failed != 0)
-        close_input(input);
-    return input->failed;
+    return 0;
 }
 
 void close_input(struct input *input)

@@ -6,7 +6,7 @@
 
 #include "arguments.h"
 #include "lernazhup.h"
-#include "shown.h"
+#include "standard.h"
 #include "verbs.h"
 
 static const char help[] =
@@ -27,7 +27,8 @@ static const char help[] =
     "  --          no options behind it\n"
     "\n"
     "Without a FILE or REPORT, or with -, standard input is read.\n"
-    "Status: 0 every file read, 1 some refused, 2 wrong use or a file of no use.\n";
+    "Status: 0 every file read, 1 some refused, 2 wrong use or a file that can't be\n"
+    "read or written.\n";
 
 int main(int count, char **words)
 {

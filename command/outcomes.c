@@ -2,11 +2,6 @@
  * reader what is in them: it is proved that the two read alike. */
 #include "outcomes.h"
 
-#include "arguments.h"
-
-/* a mode more in the library is one more here */
-typedef char as_many_modes[LERNAZHUP_SYMBOL_CHIPS(MODES) == 0 && LERNAZHUP_SYMBOL_CHIPS(MODES - 1) > 0 ? 1 : -1];
-
 /* Octets of a frame before its report: the preamble's, the start octet and the length octet. */
 enum { START_AT = 4, LENGTH_AT = 5, REPORT_AT = 6 };
 
@@ -57,20 +52,20 @@ static void try_mode(struct outcome *outcome, struct input *capture, uint32_t mo
     lernazhup_receiver receiver = receive(capture, 0, mode);
     outcome->mode = mode;
     outcome->sized = receiver.taken >= REPORT_AT * symbols_of_an_octet(mode);
-    outcome->least = LERNAZHUP_FRAME_CHIPS(mode, receiver.length); /* 0 before it is read */
+    outcome->chips = LERNAZHUP_FRAME_CHIPS(mode, receiver.length); /* 0 before it is read */
     outcome->reading = read_what_came(checked, mode, capture, 0, outcome->report);
     outcome->check = outcome->zeros = 0;
     outcome->left = -1;
     if (outcome->reading.number == LERNAZHUP_DONE) {
         outcome->check = lernazhup_check(outcome->report, outcome->reading.n);
         outcome->zeros = all_zero(outcome->report, outcome->reading.n);
-        outcome->left = left_over(capture, outcome->least);
+        outcome->left = left_over(capture, outcome->chips);
     }
 }
 
 void try_modes(struct outcomes *outcomes, struct input *capture, uint32_t mode, int checked)
 {
-    uint32_t first = mode == EVERY_MODE ? 0 : mode, last = mode == EVERY_MODE ? MODES - 1 : mode;
+    uint32_t first = mode == NO_MODE ? 0 : mode, last = mode == NO_MODE ? MODES - 1 : mode;
     outcomes->checked = checked;
     outcomes->tried = outcomes->read = 0;
     for (mode = first; mode <= last; mode++) {
@@ -86,11 +81,15 @@ static int behind_the_frame(uint32_t number)
     return number == LERNAZHUP_TOOFEW || number == LERNAZHUP_BADCHECK || number == LERNAZHUP_ALLZERO;
 }
 
+size_t refused_at(const struct outcome *refused)
+{
+    return (size_t)refused->reading.place * LERNAZHUP_SYMBOL_CHIPS(refused->mode);
+}
+
 struct place place_of(const struct outcome *refused, const struct input *capture)
 {
     static const size_t first[] = {0, START_AT, LENGTH_AT, REPORT_AT};
-    struct place place = {END, refused->reading.place / symbols_of_an_octet(refused->mode), 0,
-                          (size_t)refused->reading.place * LERNAZHUP_SYMBOL_CHIPS(refused->mode)};
+    struct place place = {END, refused->reading.place / symbols_of_an_octet(refused->mode), 0, refused_at(refused)};
     if (behind_the_frame(refused->reading.number))
         return place;
     place.part = REPORT;
@@ -101,17 +100,6 @@ struct place place_of(const struct outcome *refused, const struct input *capture
         while (capture->bytes[place.byte] <= 1)
             place.byte++;
     return place;
-}
-
-const char *radio_of(uint32_t mode)
-{
-    static const char *const radios[MODES] = {"868/915 BPSK", "2450 O-QPSK", "868/915 O-QPSK"};
-    return radios[mode];
-}
-
-uint32_t best_gap(uint32_t mode)
-{
-    return LERNAZHUP_BY_MODE(mode, 15u, 12u, 6u);
 }
 
 /* A wrong chip may take two off the best gap; where as many as are accepted all did, it is the

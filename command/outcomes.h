@@ -7,15 +7,13 @@
 
 #include "input.h"
 #include "lernazhup.h"
-
-/* The modes are 0 to MODES - 1. */
-#define MODES 3
+#include "modes.h"
 
 struct outcome {
     uint32_t mode;
     lernazhup_reading reading;
     int sized;      /* whether the frame's length octet was read */
-    size_t least;   /* chips of the frame; where that was not read, of the shortest in this mode */
+    size_t chips;   /* of the frame; where that was not read, of the shortest in this mode */
     uint32_t check; /* of a report, what lernazhup_check says of it */
     int zeros;      /* of a report, whether it has octets, and all are 0 */
     long long left; /* of a report, bytes behind the frame; -1 where that can't be told */
@@ -29,7 +27,7 @@ struct outcomes {
     struct outcome of[MODES];
 };
 
-/* The capture in one mode, or in each where it is EVERY_MODE. Reads on as far as a mode wants more
+/* The capture in one mode, or in each where it is NO_MODE. Reads on as far as a mode wants more
  * chips. */
 void try_modes(struct outcomes *outcomes, struct input *capture, uint32_t mode, int checked);
 
@@ -50,13 +48,12 @@ struct place {
 
 struct place place_of(const struct outcome *refused, const struct input *capture);
 
-/* How a gap is to be taken. The best is that of a frame as sent, the largest of its mode. */
+/* The first chip of the symbol that a refusal stands at. */
+size_t refused_at(const struct outcome *refused);
+
+/* How a gap is to be taken. */
 enum closeness { BEST, BETWEEN, EDGE };
 
-uint32_t best_gap(uint32_t mode);
 enum closeness closeness_of(const struct outcome *done);
-
-/* The name of a mode's radio. */
-const char *radio_of(uint32_t mode);
 
 #endif

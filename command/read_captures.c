@@ -5,14 +5,9 @@
 #include <unistd.h>
 
 #include "input.h"
-#include "shown.h"
+#include "standard.h"
 #include "tell.h"
 #include "verbs.h"
-
-static const char *told_name(const char *name)
-{
-    return strcmp(name, "-") == 0 ? "standard input" : name;
-}
 
 static enum status tell_failure(const struct arguments *asked, const char *name, const char *why)
 {

@@ -2,7 +2,6 @@
  * surrogates, nothing above U+10FFFF. */
 #include "shown.h"
 
-#include <errno.h>
 #include <string.h>
 
 /* The character that the text begins with, and its bytes in *length; where it begins with none,
@@ -78,22 +77,4 @@ void show_json(FILE *out, const char *name)
 int shown_octet(uint8_t octet)
 {
     return octet >= 0x20 && octet < 0x7f ? octet : '.';
-}
-
-void complain(const char *name, const char *why)
-{
-    fputs("lernazhup: ", stderr);
-    if (name != NULL) {
-        show_name(stderr, *name == 0 ? "''" : name);
-        fputs(": ", stderr);
-    }
-    fprintf(stderr, "%s\n", why);
-}
-
-int written_out(void)
-{
-    if (fflush(stdout) == 0 && !ferror(stdout))
-        return 1;
-    complain("standard output", strerror(errno));
-    return 0;
 }

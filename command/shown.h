@@ -2,7 +2,6 @@
 #ifndef SHOWN_H
 #define SHOWN_H
 
-#include <stddef.h>
 #include <stdint.h>
 #include <stdio.h>
 
@@ -15,11 +14,5 @@ void show_json(FILE *out, const char *name);
 
 /* An octet in ASCII, and a dot for what is no printable character there. */
 int shown_octet(uint8_t octet);
-
-/* Whether all that was written to standard output got there; complains where it didn't. */
-int written_out(void);
-
-/* A line on standard error: what is wrong, and with which word or file, if with one. */
-void complain(const char *name, const char *why);
 
 #endif

@@ -1,5 +1,6 @@
 /* What came of a capture, for programs: one object on one line, whatever its name has in it. */
 #include "lernazhup.h"
+#include "modes.h"
 #include "shown.h"
 #include "tell.h"
 
@@ -41,7 +42,7 @@ static void tell_report(FILE *out, const struct outcome *done)
     fprintf(out, "\"n\":%u,", (unsigned)done->reading.n);
     tell_octets(out, done->report, done->reading.n);
     fprintf(out, "\"repaired\":%u,\"chips\":%zu,\"gap\":%u,\"best_gap\":%u,\"closeness\":\"%s\",\"polarity\":%u,",
-            (unsigned)done->reading.count, done->least, (unsigned)done->reading.gap, (unsigned)best_gap(done->mode),
+            (unsigned)done->reading.count, done->chips, (unsigned)done->reading.gap, (unsigned)best_gap(done->mode),
             closeness[closeness_of(done)], (unsigned)done->reading.polarity);
     fprintf(out, "\"fcs\":\"%s\",", fcs_of(done));
     if (done->check != LERNAZHUP_TOOFEW) {
@@ -64,11 +65,25 @@ static void tell_refusal(FILE *out, const struct account *account, const struct 
             parts[place.part], place.octet, place.octet_of_part, place.byte);
 }
 
+/* The numbers of a hint, which its words have, too. */
+static void tell_numbers(FILE *out, const struct hint *hint)
+{
+    switch (hint->kind) {
+    case EMPTY: break;
+    case SHORT: fprintf(out, "\"mode\":%u,\"wanted\":%zu,\"came\":%zu,", (unsigned)hint->mode, hint->wanted, hint->looked); break;
+    case BYTES: fprintf(out, "\"from\":%zu,\"count\":%zu,\"looked_at\":%zu,", hint->from, hint->count, hint->looked); break;
+    case FLAT:
+    case FLAT_FROM: fprintf(out, "\"from\":%zu,\"count\":%zu,\"chip\":%u,", hint->from, hint->count, hint->chip); break;
+    default:
+        if (hint_reads(hint))
+            fprintf(out, "\"mode\":%u,\"later\":%zu,", (unsigned)hint->mode, hint->later);
+    }
+}
+
 static void tell_hint(FILE *out, const struct hint *hint)
 {
     fprintf(out, "{\"hint\":\"%s\",", hint_name(hint));
-    if (hint_reads(hint))
-        fprintf(out, "\"mode\":%u,\"later\":%zu,", (unsigned)hint->mode, hint->at);
+    tell_numbers(out, hint);
     fputs("\"words\":\"", out);
     put_hint(out, hint);
     fputs("\"}", out);

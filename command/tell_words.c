@@ -1,5 +1,6 @@
 /* What came of a capture, in words for those who stand at the bench. */
 #include "lernazhup.h"
+#include "modes.h"
 #include "shown.h"
 #include "tell.h"
 
@@ -52,7 +53,7 @@ static void tell_report(FILE *out, const struct account *account, const struct o
     fprintf(out, ": a report of %u octet%s in mode %u, %s\n", (unsigned)done->reading.n, done->reading.n == 1 ? "" : "s",
             (unsigned)done->mode, radio_of(done->mode));
     dump(out, done->report, done->reading.n);
-    fprintf(out, "  repaired   %u of %zu chips\n", (unsigned)done->reading.count, done->least);
+    fprintf(out, "  repaired   %u of %zu chips\n", (unsigned)done->reading.count, done->chips);
     tell_gap(out, done);
     fprintf(out, "  polarity   %u, %s\n", (unsigned)done->reading.polarity, done->reading.polarity == 0 ? "as sent" : "inverted");
     tell_fcs(out, done);

@@ -8,6 +8,7 @@
 #include "lernazhup.h"
 #include "replace.h"
 #include "shown.h"
+#include "standard.h"
 #include "verbs.h"
 
 struct frame {
@@ -64,7 +65,7 @@ enum status write_capture(const struct arguments *asked)
     static struct input report;
     static struct frame frame;
     const char *name = asked->count > 0 ? asked->names[0] : "-";
-    const char *told = strcmp(name, "-") == 0 ? "standard input" : name;
+    const char *told = told_name(name);
     enum status status;
     int failed;
     if (asked->capture == NULL && isatty(STDOUT_FILENO))

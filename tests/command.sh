@@ -15,9 +15,9 @@ lernazhup() {
 # the same as a line of shell begins
 program="${runner:+'$runner'} '$command'"
 
-# came CASE GOT STATUS OUT ERR: the status that came against the one due, and what is in $room/out
+# ends CASE GOT STATUS OUT ERR: the status that came against the one due, and what is in $room/out
 # and $room/err against all lines of either, each with a / behind it
-came() {
+ends() {
     got="$2 $(tr '\n' / <"$room/out") $(tr '\n' / <"$room/err")"
     verdict "$1" "$([ "$got" = "$3 $4 $5" ] || echo "'$got' and not '$3 $4 $5'")"
 }
@@ -27,7 +27,7 @@ says() {
     case=$1 status=$2 out=$3 err=$4
     shift 4
     lernazhup "$@" >"$room/out" 2>"$room/err"
-    came "$case" $? "$status" "$out" "$err"
+    ends "$case" $? "$status" "$out" "$err"
 }
 
 has() { # CASE TEXT: one of the lines in $room/out has this text

@@ -35,6 +35,14 @@ frame() {
     awk -v chips="$1" '/^[01]+$/ && length($0) == chips { printf "%s", $0 }' crates/vectors/stdout
 }
 
+octets() { # COUNT: so many octets
+    head -c "$1" /dev/zero | tr '\000' 'Z'
+}
+
+contents() { # what stands in this folder, with kinds, permissions, owners, links and sums of contents
+    find . -exec stat -c '%n %F %a %u %i %N' '{}' + | sort && find . -type f -exec cksum '{}' + | sort
+}
+
 chips() { # digits on standard input, as a raw capture
     tr '01' '\000\001'
 }

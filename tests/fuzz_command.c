@@ -12,6 +12,7 @@
 #include "arguments.h"
 #include "hints.h"
 #include "lernazhup.h"
+#include "modes.h"
 #include "tell.h"
 
 static uint64_t state;
@@ -36,9 +37,10 @@ static void demand(int holds, const char *what)
 /* Words of a command line, some of them of any bytes. */
 enum { WORDS_MAX = 8, WORD_MAX = 12 };
 
-static const char *const known[] = {"read", "write", "-m", "-c", "-o",   "--json", "--help", "--version", "--",        "-",    "0",
-                              "1",    "2",     "3",  "-m", "-cm1", "-m2",    "-cx",    "-",         "-oa",       "file", "a\nb",
-                              "",     "-x",    "--jso", "-mc", "99999999999", "00001", "read", "read", "\xc3\xa9", "-co-", "--c"};
+static const char *const known[] = {
+    "read", "write", "-m", "-c", "-o", "--json", "--help", "--version", "--", "-", "0", "1", "2", "3", "99999999999", "00001",
+    "-cm1", "-m2", "-cx", "-oa", "-co-", "-mc", "-x", "--jso", "--c", "", "file", "a\nb", "\xc3\xa9",
+};
 
 static char *draw_word(char *room)
 {
@@ -75,12 +77,12 @@ static struct arguments try_arguments(void)
     if (count > 1 && draw(8) > 0)
         strcpy(words[1], draw(4) > 0 ? "read" : "write");
     asked = parse_arguments(count, words);
-    demand(asked.mode == EVERY_MODE || LERNAZHUP_SYMBOL_CHIPS(asked.mode) > 0, "a mode that no radio has");
+    demand(asked.mode == NO_MODE || LERNAZHUP_SYMBOL_CHIPS(asked.mode) > 0, "a mode that no radio has");
     demand(asked.word == NULL || asked.wrong != NULL, "a wrong word, and nothing wrong");
     if (asked.wrong != NULL)
         return asked;
     check_names(&asked, given, count);
-    demand(asked.verb != WRITE || (asked.mode != EVERY_MODE && asked.count < 2), "write with too little or too much");
+    demand(asked.verb != WRITE || (asked.mode != NO_MODE && asked.count < 2), "write with too little or too much");
     demand(asked.verb != READ || asked.capture == NULL, "a capture to write that nobody asked for");
     demand(asked.verb != WRITE || !asked.json, "JSON that nobody asked for");
     return asked;
@@ -108,11 +110,26 @@ static void draw_bytes(uint8_t *bytes, size_t count, uint32_t below)
         bytes[k] = (uint8_t)draw(below);
 }
 
-/* A frame with as many wrong chips in some symbols as are accepted, behind some flat chips and
- * before some others. Flat chips are near no word, so that no frame begins among them. */
+/* Wrong chips in some symbols of a frame, none with more than are accepted: any, or such as lead
+ * towards another symbol, which make the gap small. */
+static void damage(uint8_t *frame, size_t chips, uint32_t mode)
+{
+    uint32_t size = LERNAZHUP_SYMBOL_CHIPS(mode), accepted = LERNAZHUP_ACCEPTED(mode), k, wrong;
+    size_t at = size * draw((uint32_t)chips / size), other = size * draw((uint32_t)chips / size);
+    for (k = wrong = 0; k < size && wrong < accepted; k++)
+        if (frame[at + k] != frame[other + k]) {
+            frame[at + k] ^= 1;
+            wrong++;
+        }
+    for (other = 0; other < chips; other += size)
+        for (k = draw(4) > 0 || other == at ? 0 : draw(accepted + 1); k > 0; k--)
+            frame[other + draw(size)] ^= 1; /* the same one twice is one less */
+}
+
+/* A frame, in mode 0 in either polarity, behind some flat chips and before some others. Flat chips
+ * are near no word, so that no frame begins among them. */
 static void make_frame(struct made *made)
 {
-    uint32_t size = LERNAZHUP_SYMBOL_CHIPS(made->mode), accepted = LERNAZHUP_ACCEPTED(made->mode), k;
     lernazhup_written written;
     uint8_t *frame = capture.bytes + made->before;
     size_t at;
@@ -123,9 +140,7 @@ static void make_frame(struct made *made)
     written = (made->checked ? lernazhup_write_checked : lernazhup_write)(made->mode, made->report, made->octets, frame,
                                                                           sizeof capture.bytes - made->before);
     made->chips = written.chips;
-    for (at = 0; at < made->chips; at += size)
-        for (k = draw(4) > 0 ? 0 : draw(accepted + 1); k > 0; k--)
-            frame[at + draw(size)] ^= 1; /* the same one twice is one less */
+    damage(frame, made->chips, made->mode);
     if (made->mode == 0 && draw(2) > 0)
         for (at = 0; at < made->chips; at++)
             frame[at] ^= 1;
@@ -158,7 +173,7 @@ static void make_capture(struct made *made, const struct arguments *asked)
     uint32_t kind = draw(100);
     made->how = kind < 50 ? RANDOM : kind < 88 ? CHIPS : (enum making)(FRAME + draw(MAKINGS - FRAME));
     made->checked = asked->checked;
-    made->mode = asked->mode == EVERY_MODE ? draw(MODES) : asked->mode;
+    made->mode = asked->mode == NO_MODE ? draw(MODES) : asked->mode;
     made->before = made->how == LATE ? 1 + draw(40) : 0;
     made_input(&capture);
     capture.have = draw(draw(64) > 0 ? 40 : 400);
@@ -188,7 +203,7 @@ static const struct hint *hint_of(const struct account *account, enum hint_kind 
 
 static int hints_frame(const struct made *made, const struct hint *hint)
 {
-    return hint != NULL && hint->mode == made->mode && hint->at == made->before;
+    return hint != NULL && hint->mode == made->mode && hint->later == made->before;
 }
 
 /* A frame that is there is found, and a frame that isn't gives the hint that it was made for. */
@@ -202,7 +217,9 @@ static void check_made(const struct made *made, const struct account *account)
         demand(outcome->reading.number == LERNAZHUP_DONE, "a frame that doesn't read");
         demand(outcome->reading.n == made->octets + (made->checked ? 2 : 0), "a report of another length");
         demand(memcmp(outcome->report, made->report, made->octets) == 0, "another report");
-        demand(outcome->least == made->chips, "a frame of other chips");
+        demand(outcome->chips == made->chips, "a frame of other chips");
+        demand((closeness_of(outcome) == EDGE) == (outcome->reading.gap == (made->mode == 0 ? 3 : 2)), "another edge");
+        demand((closeness_of(outcome) == BEST) == (outcome->reading.gap == (made->mode == 0 ? 15 : made->mode == 1 ? 12 : 6)), "another best");
     } else if (made->how >= CUT) {
         demand(outcome->reading.number != LERNAZHUP_DONE, "a report of what is no frame");
     }
@@ -226,21 +243,21 @@ static void check_hint(const struct account *account, const struct hint *hint)
     size_t k, above = 0, other = 0, text = 0;
     for (k = 0; k < capture.have; k++) {
         above += capture.bytes[k] > 1;
-        other += k >= hint->at && capture.bytes[k] != hint->value;
+        other += k >= hint->from && capture.bytes[k] != hint->chip;
         text += memchr("01, \t\r\n", capture.bytes[k], 7) != NULL;
     }
     switch (hint->kind) {
     case EMPTY: demand(capture.have == 0, "empty, and isn't"); break;
     case DIGITS: demand(text == capture.have, "digits, and something else"); break;
     case LATER:
-        demand(hint->at > 0 && hint->at < LERNAZHUP_CHIPS_MAX && hint->at < capture.have, "later than is looked at");
-        demand(read_frame(account->outcomes.checked, hint->mode, &capture, hint->at, report).number == LERNAZHUP_DONE,
+        demand(hint->later > 0 && hint->later < LERNAZHUP_CHIPS_MAX, "later than is looked for");
+        demand(read_frame(account->outcomes.checked, hint->mode, &capture, hint->later, report).number == LERNAZHUP_DONE,
                "later, and doesn't read there");
         break;
-    case BYTES: demand(above == hint->count && capture.bytes[hint->at] > 1, "bytes counted wrongly"); break;
-    case FLAT: demand(other == 0 && hint->at == 0 && hint->count == capture.have, "flat, and isn't"); break;
-    case FLAT_FROM: demand(other == 0 && hint->at > 0 && hint->at + hint->count == capture.have, "flat from there, and isn't"); break;
-    case SHORT: demand(hint->count > capture.have, "too short, and isn't"); break;
+    case BYTES: demand(above == hint->count && capture.bytes[hint->from] > 1, "bytes counted wrongly"); break;
+    case FLAT: demand(other == 0 && hint->from == 0 && hint->count == capture.have, "flat, and isn't"); break;
+    case FLAT_FROM: demand(other == 0 && hint->from > 0 && hint->from + hint->count == capture.have, "flat from there, and isn't"); break;
+    case SHORT: demand(hint->wanted > capture.have, "too short, and isn't"); break;
     default: demand(hint_reads(hint), "a reading in no mode"); break;
     }
 }
@@ -310,6 +327,15 @@ static const char *behind_value(const char *text)
     return isdigit((unsigned char)*text) ? text + strspn(text, "0123456789") : NULL;
 }
 
+/* How often a text stands in another. */
+static size_t times(const char *text, const char *part)
+{
+    size_t count = 0;
+    for (text = strstr(text, part); text != NULL; text = strstr(text + 1, part))
+        count++;
+    return count;
+}
+
 /* What is told goes to memory: in words, lines without a control character; in JSON, one object on
  * one line. */
 static void check_told(const struct account *account, int json)
@@ -321,21 +347,35 @@ static void check_told(const struct account *account, int json)
     if (out == NULL)
         out = open_memstream(&told, &size);
     rewind(out);
-    if (json)
+    if (json) {
         tell_in_json(out, account);
-    else
+    } else {
         tell_outcomes(out, account);
-    if (!json)
         tell_hints(out, account);
+    }
     putc(0, out);
     fflush(out);
     for (k = 0; k + 1 < size; k++)
         demand((unsigned char)told[k] >= 0x20 ? told[k] != 0x7f : told[k] == '\n', "a control character is told");
     demand(size > 2 && told[size - 2] == '\n', "no whole line is told");
+    demand(times(told, json ? "\"repaired\":" : "\n  repaired ") == account->outcomes.read, "another number of reports is told");
     if (json) {
         const char *behind = behind_value(told);
         demand(told[0] == '{' && behind != NULL && strcmp(behind, "\n") == 0, "what is told is no JSON");
     }
+}
+
+/* No capture reads in two modes that we know of; if one did, both would be told. */
+static void read_twice(struct outcomes *outcomes)
+{
+    size_t k, done = 0;
+    while (done < outcomes->tried && outcomes->of[done].reading.number != LERNAZHUP_DONE)
+        done++;
+    if (outcomes->read != 1 || outcomes->tried != MODES || draw(2) > 0)
+        return;
+    k = (done + 1 + draw(2)) % MODES;
+    outcomes->of[k] = outcomes->of[done];
+    outcomes->read = 2;
 }
 
 static void try_input(void)
@@ -359,6 +399,7 @@ static void try_input(void)
         check_hint(&account, &account.hints.list[k]);
         demand(!hint_reads(&account.hints.list[k]) || hint_of(&account, SHORT) == NULL, "too short, and reads");
     }
+    read_twice(&account.outcomes);
     check_told(&account, (int)draw(2));
 }
 
