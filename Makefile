@@ -102,9 +102,10 @@ test: check
 	@rt ci
 
 # every test from outside; each prints a line of counts, and fails where something is wrong. The
-# comparison takes one core for as long as all that stand before the faults, and runs beside them.
+# comparison and the fuzzer take one core for as long as all that stand before the faults, and run
+# beside them.
 outside: $(SINGLE) build/compare build/speed $(SHARED) build/lernazhup build/lernazhup-sanitized build/fuzz_command
-	@comparison/compare-test "$$SEED" "$$CASES" >build/compare.said 2>&1 & compared=$$!; \
+	@{ comparison/compare-test "$$SEED" "$$CASES" && tests/fuzz-test "$$SEED"; } >build/compare.said 2>&1 & compared=$$!; \
 	tests/contracts-test && \
 	tests/header-test && \
 	tools/exec build/header_macros && \
@@ -119,7 +120,6 @@ outside: $(SINGLE) build/compare build/speed $(SHARED) build/lernazhup build/ler
 	tests/command-help-test && \
 	tests/command-read-test && \
 	tests/command-write-test && \
-	tests/fuzz-test "$$SEED" && \
 	tools/exec build/stack && \
 	measure/sizes; others=$$?; \
 	wait $$compared; status=$$?; cat build/compare.said; [ $$others -eq 0 ] && [ $$status -eq 0 ]
