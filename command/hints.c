@@ -1,5 +1,5 @@
-/* First the frames that read, though not as was asked; then, where there is none, what the bytes
- * are instead. A frame is found by reading there. */
+/* First the frames that read, though not as was asked, each found by reading there; then what the
+ * bytes are. */
 #include "hints.h"
 
 #include <string.h>
@@ -186,19 +186,20 @@ static void too_short(struct hints *hints, const struct input *capture, const st
     }
 }
 
-/* What the bytes are, where no frame reads from the first one on. */
+/* What the bytes are. Where a frame reads they are chips, and enough of them; but one that is none
+ * may have ended the reading before it. */
 static void find_facts(struct hints *hints, const struct input *capture, const struct outcomes *refused)
 {
-    int later = hints->count > 0;
+    int reads = hints->count > 0;
     if (capture->have == 0) {
         add(hints, EMPTY, capture);
         return;
     }
-    if (!later && (digits(hints, capture, refused) || packed(hints, capture, refused)))
+    if (!reads && (digits(hints, capture, refused) || packed(hints, capture, refused)))
         return;
     no_chips(hints, capture, refused);
     flat(hints, capture, refused);
-    if (!later)
+    if (!reads)
         too_short(hints, capture, refused);
 }
 
@@ -206,10 +207,9 @@ void find_hints(struct hints *hints, struct input *capture, const struct outcome
 {
     hints->count = 0;
     if (other_mode(hints, capture, refused))
-        return;
+        return; /* on a stream another frame may be long in coming */
     if (refused->checked)
         find_frame(hints, CHECK, capture, 0, refused);
     find_frame(hints, LATER, capture, 1, refused);
-    if (hints->count == 0 || hints->list[0].later > 0)
-        find_facts(hints, capture, refused);
+    find_facts(hints, capture, refused);
 }

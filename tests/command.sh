@@ -18,8 +18,7 @@ program="${runner:+'$runner'} '$command'"
 # ends CASE GOT STATUS OUT ERR: the status that came against the one due, and what is in $room/out
 # and $room/err against all lines of either, each with a / behind it
 ends() {
-    got="$2 $(tr '\n' / <"$room/out") $(tr '\n' / <"$room/err")"
-    verdict "$1" "$([ "$got" = "$3 $4 $5" ] || echo "'$got' and not '$3 $4 $5'")"
+    same "$1" "$2 $(tr '\n' / <"$room/out") $(tr '\n' / <"$room/err")" "$3 $4 $5"
 }
 
 # says CASE STATUS OUT ERR: what the command comes to with the arguments after that

@@ -23,6 +23,10 @@ result() { # CASE STATUS: 0 is a pass
     verdict "$1" "$([ "$2" = 0 ] || echo failed)"
 }
 
+same() { # CASE GOT WANT
+    verdict "$1" "$([ "$2" = "$3" ] || echo "'$2' and not '$3'")"
+}
+
 counts() {
     echo "$name: $passed passed, $failed failed"
     [ "$failed" -eq 0 ]
