@@ -54,7 +54,7 @@ static void put_short(FILE *out, const struct hint *hint)
         fprintf(out, "too short: by its length octet this mode %u frame has", (unsigned)hint->mode);
     else
         fprintf(out, "too short: a mode %u frame has at least", (unsigned)hint->mode);
-    fprintf(out, " %zu chips, and %zu came", hint->wanted, hint->looked);
+    fprintf(out, " %zu chips, and %zu byte%s came", hint->wanted, hint->looked, hint->looked == 1 ? "" : "s");
 }
 
 void put_hint(FILE *out, const struct hint *hint)
@@ -67,7 +67,10 @@ void put_hint(FILE *out, const struct hint *hint)
         put_reading(out, hint);
         fprintf(out, ": tail -c +%zu leaves those out", hint->later + 1);
         break;
-    case OTHER_MODE: fprintf(out, "it reads in mode %u", (unsigned)hint->mode); break;
+    case OTHER_MODE:
+        fputs("it reads ", out);
+        put_reading(out, hint);
+        break;
     case CHECK:
         fputs("every symbol of a frame reads ", out);
         put_reading(out, hint);

@@ -16,24 +16,29 @@ static struct hint *add(struct hints *hints, enum hint_kind kind, const struct i
     return hint;
 }
 
-/* Adds a hint that a frame reads in one of the modes tried, if one does: the first that begins at a
- * chip from `from` on, and below LERNAZHUP_CHIPS_MAX. */
-static int find_frame(struct hints *hints, enum hint_kind kind, struct input *chips, size_t from, const struct outcomes *tried)
+/* Adds a hint that a frame reads, if one does: the first that begins at a chip from `from` on, and
+ * below LERNAZHUP_CHIPS_MAX, in the mode or, for NO_MODE, in any. CHECK is of the plain profile: a
+ * frame whose report the check doesn't refuse is none for it. */
+static int find_frame(struct hints *hints, enum hint_kind kind, struct input *chips, size_t from, uint32_t mode, int checked)
 {
-    int checked = tried->checked && kind != CHECK;
+    uint32_t first = mode == NO_MODE ? 0 : mode, last = mode == NO_MODE ? MODES - 1 : mode;
     uint8_t report[LERNAZHUP_REPORT_MAX];
-    size_t at, k;
+    struct hint *hint;
+    size_t at;
     for (at = from; at < LERNAZHUP_CHIPS_MAX && input_has(chips, at + 1); at++)
-        for (k = 0; k < tried->tried; k++) {
-            uint32_t mode = tried->of[k].mode;
-            if (chips->ended && chips->have - at < LERNAZHUP_FRAME_CHIPS(mode, 0))
+        for (mode = first; mode <= last; mode++) {
+            lernazhup_reading reading;
+            if (input_ends(chips) && chips->have - at < LERNAZHUP_FRAME_CHIPS(mode, 0))
                 continue; /* too few for any frame */
-            if (read_frame(checked, mode, chips, at, report).number == LERNAZHUP_DONE) {
-                struct hint *hint = add(hints, kind, chips);
-                hint->mode = mode;
-                hint->later = at;
-                return 1;
-            }
+            reading = read_frame(checked, mode, chips, at, report);
+            if (reading.number != LERNAZHUP_DONE)
+                continue;
+            if (kind == CHECK && lernazhup_check(report, reading.n) == LERNAZHUP_DONE)
+                return 0;
+            hint = add(hints, kind, chips);
+            hint->mode = mode;
+            hint->later = at;
+            return 1;
         }
     return 0;
 }
@@ -43,8 +48,8 @@ static int other_mode(struct hints *hints, struct input *capture, const struct o
 {
     uint8_t report[LERNAZHUP_REPORT_MAX];
     uint32_t mode;
-    for (mode = 0; mode < MODES && tried->tried < MODES; mode++)
-        if (mode != tried->of[0].mode && read_frame(tried->checked, mode, capture, 0, report).number == LERNAZHUP_DONE) {
+    for (mode = 0; mode < MODES; mode++)
+        if (mode != tried->mode && read_frame(tried->checked, mode, capture, 0, report).number == LERNAZHUP_DONE) {
             add(hints, OTHER_MODE, capture)->mode = mode;
             return 1;
         }
@@ -69,21 +74,26 @@ static void digits_to_chips(const struct input *capture, struct input *chips)
     for (at = 0; at < capture->have; at++)
         switch (capture->bytes[at]) {
         case '0':
-        case '1': chips->bytes[chips->have++] = (uint8_t)(capture->bytes[at] - '0'); break;
+        case '1': put_byte(chips, (uint8_t)(capture->bytes[at] - '0')); break;
         case ' ':
         case ',':
         case '\t':
         case '\r':
         case '\n': break;
-        default: chips->have = 0; return;
+        default: made_input(chips); return;
         }
 }
 
-static int digits(struct hints *hints, const struct input *capture, const struct outcomes *tried)
+/* More of the bytes are looked at than of chips, since not each of them is a digit. */
+static int digits(struct hints *hints, struct input *capture)
 {
     struct input chips;
     digits_to_chips(capture, &chips);
-    if (chips.have > 0 && !find_frame(hints, DIGITS, &chips, 0, tried))
+    if (chips.have == 0)
+        return 0;
+    input_has(capture, LOOKED_AT_MAX);
+    digits_to_chips(capture, &chips);
+    if (chips.have > 0 && !find_frame(hints, DIGITS, &chips, 0, NO_MODE, 0))
         add(hints, DIGITS, capture);
     return chips.have > 0;
 }
@@ -91,24 +101,25 @@ static int digits(struct hints *hints, const struct input *capture, const struct
 /* Each byte as eight chips, as far as a frame is looked for. */
 static void unpack(const struct input *capture, int lowest_first, struct input *chips)
 {
+    size_t at;
     made_input(chips);
-    for (; chips->have < LOOKED_AT_MAX && chips->have / 8 < capture->have; chips->have++) {
-        unsigned bit = (unsigned)(chips->have % 8);
-        chips->bytes[chips->have] = capture->bytes[chips->have / 8] >> (lowest_first ? bit : 7 - bit) & 1;
+    for (at = 0; at < LOOKED_AT_MAX && at / 8 < capture->have; at++) {
+        unsigned bit = (unsigned)(at % 8);
+        put_byte(chips, capture->bytes[at / 8] >> (lowest_first ? bit : 7 - bit) & 1);
     }
 }
 
 /* Bytes that are all chips are not looked at as eight of them each. */
-static int packed(struct hints *hints, const struct input *capture, const struct outcomes *tried)
+static int packed(struct hints *hints, const struct input *capture)
 {
     struct input chips;
     if (first_above_one(capture) == capture->have)
         return 0;
     unpack(capture, 1, &chips);
-    if (find_frame(hints, PACKED_LOW, &chips, 0, tried))
+    if (find_frame(hints, PACKED_LOW, &chips, 0, NO_MODE, 0))
         return 1;
     unpack(capture, 0, &chips);
-    return find_frame(hints, PACKED_HIGH, &chips, 0, tried);
+    return find_frame(hints, PACKED_HIGH, &chips, 0, NO_MODE, 0);
 }
 
 /* Of the modes that ended with a number, the one that got farthest; a null pointer where none
@@ -125,12 +136,14 @@ static const struct outcome *farthest(const struct outcomes *refused, uint32_t n
     return best;
 }
 
-/* How many bytes are no chips, where a reading ended at one of them or among the last bytes. */
+/* How many bytes are no chips; where a frame reads, only if another reading ended at one of them or
+ * among the last bytes. */
 static void no_chips(struct hints *hints, const struct input *capture, const struct outcomes *refused)
 {
+    int ended = farthest(refused, LERNAZHUP_NOCHIP) != NULL || farthest(refused, LERNAZHUP_RUNOUT) != NULL;
     size_t at = first_above_one(capture);
     struct hint *hint;
-    if (at == capture->have || (farthest(refused, LERNAZHUP_NOCHIP) == NULL && farthest(refused, LERNAZHUP_RUNOUT) == NULL))
+    if (at == capture->have || (hints->count > 0 && !ended))
         return;
     hint = add(hints, BYTES, capture);
     hint->from = at;
@@ -138,19 +151,27 @@ static void no_chips(struct hints *hints, const struct input *capture, const str
         hint->count += capture->bytes[at] > 1;
 }
 
-/* Chips that are flat to the end, from a symbol that was lost or from before it: at least as many
- * as a symbol has, which no frame as sent has in a row. */
+/* Whether chips that are flat from one on may be why a mode was refused: they begin in the symbol
+ * that it was refused at or before it, and are at least as many as a symbol has, which no frame as
+ * sent has in a row. In mode 0 half of a symbol may read as another bit. */
+static int flat_there(const struct outcome *refused, const struct input *capture, size_t from)
+{
+    size_t size = LERNAZHUP_SYMBOL_CHIPS(refused->mode);
+    uint32_t number = refused->reading.number;
+    return (number == LERNAZHUP_LOST || number == LERNAZHUP_PREAMBLE || number == LERNAZHUP_BADSTART) &&
+           from < refused_at(refused) + size && capture->have - from >= size;
+}
+
+/* Chips that are flat to the end. */
 static void flat(struct hints *hints, const struct input *capture, const struct outcomes *refused)
 {
-    const struct outcome *lost = farthest(refused, LERNAZHUP_LOST);
-    size_t from = capture->have - 1, size;
+    size_t from = capture->have - 1, k = 0;
     struct hint *hint;
-    if (lost == NULL || capture->bytes[from] > 1)
-        return;
     while (from > 0 && capture->bytes[from - 1] == capture->bytes[from])
         from--;
-    size = LERNAZHUP_SYMBOL_CHIPS(lost->mode);
-    if (from >= refused_at(lost) + size || capture->have - from < size)
+    while (k < refused->tried && !flat_there(&refused->of[k], capture, from))
+        k++;
+    if (k == refused->tried || capture->bytes[from] > 1)
         return;
     hint = add(hints, from == 0 ? FLAT : FLAT_FROM, capture);
     hint->from = from;
@@ -188,14 +209,14 @@ static void too_short(struct hints *hints, const struct input *capture, const st
 
 /* What the bytes are. Where a frame reads they are chips, and enough of them; but one that is none
  * may have ended the reading before it. */
-static void find_facts(struct hints *hints, const struct input *capture, const struct outcomes *refused)
+static void find_facts(struct hints *hints, struct input *capture, const struct outcomes *refused)
 {
     int reads = hints->count > 0;
     if (capture->have == 0) {
         add(hints, EMPTY, capture);
         return;
     }
-    if (!reads && (digits(hints, capture, refused) || packed(hints, capture, refused)))
+    if (!reads && (digits(hints, capture) || packed(hints, capture)))
         return;
     no_chips(hints, capture, refused);
     flat(hints, capture, refused);
@@ -206,10 +227,11 @@ static void find_facts(struct hints *hints, const struct input *capture, const s
 void find_hints(struct hints *hints, struct input *capture, const struct outcomes *refused)
 {
     hints->count = 0;
-    if (other_mode(hints, capture, refused))
+    if (refused->mode != NO_MODE && other_mode(hints, capture, refused))
         return; /* on a stream another frame may be long in coming */
     if (refused->checked)
-        find_frame(hints, CHECK, capture, 0, refused);
-    find_frame(hints, LATER, capture, 1, refused);
+        find_frame(hints, CHECK, capture, 0, NO_MODE, 0);
+    if (!find_frame(hints, LATER, capture, 1, refused->mode, refused->checked) && refused->mode != NO_MODE)
+        find_frame(hints, OTHER_MODE, capture, 1, NO_MODE, refused->checked);
     find_facts(hints, capture, refused);
 }

@@ -13,14 +13,14 @@
 enum hint_kind {
     CHECK,       /* a frame reads, and the check refuses its report */
     LATER,       /* a frame reads when started some chips later */
-    OTHER_MODE,  /* reads in a mode that was not asked for */
+    OTHER_MODE,  /* a frame reads in a mode that was not asked for */
     EMPTY,       /* nothing came */
     DIGITS,      /* the digits 0 and 1 as text, which may read as chips */
     PACKED_LOW,  /* reads with each byte as eight chips, the lowest bit first */
     PACKED_HIGH, /* the same with the highest first */
-    BYTES,       /* bytes that are no chips, where one ended a reading */
+    BYTES,       /* bytes that are no chips */
     FLAT,        /* every chip has the one value */
-    FLAT_FROM,   /* the same from a byte on, in or before the symbol that was lost */
+    FLAT_FROM,   /* the same from a byte on, in or before the symbol that was refused */
     SHORT        /* fewer chips than the frame has */
 };
 

@@ -12,10 +12,16 @@
 
 void made_input(struct input *input)
 {
-    input->have = 0;
+    input->came = input->have = 0;
     input->own = input->ahead = input->failed = 0;
     input->ended = 1;
     input->began = input->descriptor = -1;
+}
+
+void put_byte(struct input *input, uint8_t byte)
+{
+    input->bytes[input->came++] = byte;
+    input->have = input->came;
 }
 
 int open_input(struct input *input, const char *name)
@@ -42,17 +48,24 @@ void close_input(struct input *input)
 
 int input_has(struct input *input, size_t count)
 {
-    while (!input->ended && input->have < count) {
-        size_t wanted = (input->ahead ? LOOKED_AT_MAX : count) - input->have;
-        ssize_t got = read(input->descriptor, input->bytes + input->have, wanted);
+    while (!input->ended && input->came < count) {
+        size_t wanted = (input->ahead ? LOOKED_AT_MAX : count) - input->came;
+        ssize_t got = read(input->descriptor, input->bytes + input->came, wanted);
         if (got > 0) {
-            input->have += (size_t)got;
+            input->came += (size_t)got;
         } else if (got == 0 || errno != EINTR) {
             input->failed = got == 0 ? 0 : errno;
             input->ended = 1;
         }
     }
+    if (input->have < count)
+        input->have = input->came < count ? input->came : count;
     return input->have >= count;
+}
+
+int input_ends(const struct input *input)
+{
+    return input->ended && input->have == input->came;
 }
 
 long long left_over(const struct input *input, size_t used)
@@ -63,5 +76,5 @@ long long left_over(const struct input *input, size_t used)
         return -1;
     size = (long long)kind.st_size - input->began;
     /* the file may have been cut since */
-    return (size > (long long)input->have ? size : (long long)input->have) - (long long)used;
+    return (size > (long long)input->came ? size : (long long)input->came) - (long long)used;
 }

@@ -16,10 +16,12 @@ struct input {
     int descriptor;  /* where more comes from, until it has ended */
     int own;         /* whether it was opened here, and is to be closed */
     int ahead;       /* whether more may be read than is asked for: of a file that nobody shares */
-    int ended;       /* whether nothing more comes */
+    int ended;       /* whether nothing comes after what came */
     int failed;      /* what errno said of a read, or 0 */
     long long began; /* where in its file a regular one began, and -1 for all else */
-    size_t have;     /* how many bytes have come */
+    size_t came;     /* how many bytes were read */
+    size_t have;     /* how many of them were asked for: no others are looked at, so that a file
+                        that is read ahead is told of as a stream is */
     uint8_t bytes[LOOKED_AT_MAX];
 };
 
@@ -27,15 +29,19 @@ struct input {
 int open_input(struct input *input, const char *name);
 void close_input(struct input *input);
 
-/* An input without a byte, to which nothing comes: for bytes that are made here. */
+/* An input without a byte, to which nothing comes, and a byte put behind the others of such a one:
+ * for what is made here. */
 void made_input(struct input *input);
+void put_byte(struct input *input, uint8_t byte);
 
 /* Whether it has so many bytes, at most LOOKED_AT_MAX: reads on until these are there or no more
  * come. */
 int input_has(struct input *input, size_t count);
 
-/* How many bytes stand behind the first `used`, which have come; -1 where only reading on would
- * tell. */
+/* Whether it has no more than it has. */
+int input_ends(const struct input *input);
+
+/* How many bytes stand behind the first `used`, which came; -1 where only reading on would tell. */
 long long left_over(const struct input *input, size_t used);
 
 #endif

@@ -33,7 +33,7 @@ static lernazhup_reading read_what_came(int checked, uint32_t mode, const struct
 lernazhup_reading read_frame(int checked, uint32_t mode, struct input *capture, size_t at, uint8_t *report)
 {
     lernazhup_reading reading = read_what_came(checked, mode, capture, at, report);
-    if (reading.number != LERNAZHUP_RUNOUT || capture->ended)
+    if (reading.number != LERNAZHUP_RUNOUT || input_ends(capture))
         return reading;
     receive(capture, at, mode);
     return read_what_came(checked, mode, capture, at, report);
@@ -66,6 +66,7 @@ static void try_mode(struct outcome *outcome, struct input *capture, uint32_t mo
 void try_modes(struct outcomes *outcomes, struct input *capture, uint32_t mode, int checked)
 {
     uint32_t first = mode == NO_MODE ? 0 : mode, last = mode == NO_MODE ? MODES - 1 : mode;
+    outcomes->mode = mode;
     outcomes->checked = checked;
     outcomes->tried = outcomes->read = 0;
     for (mode = first; mode <= last; mode++) {

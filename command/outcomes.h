@@ -21,9 +21,10 @@ struct outcome {
 };
 
 struct outcomes {
-    int checked;  /* whether in the checked profile */
-    size_t tried; /* how many modes */
-    size_t read;  /* how many of them gave a report */
+    uint32_t mode; /* the one that was asked for; NO_MODE where every one is tried */
+    int checked;   /* whether in the checked profile */
+    size_t tried;  /* how many modes */
+    size_t read;   /* how many of them gave a report */
     struct outcome of[MODES];
 };
 

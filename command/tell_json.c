@@ -70,7 +70,10 @@ static void tell_numbers(FILE *out, const struct hint *hint)
 {
     switch (hint->kind) {
     case EMPTY: break;
-    case SHORT: fprintf(out, "\"mode\":%u,\"wanted\":%zu,\"came\":%zu,", (unsigned)hint->mode, hint->wanted, hint->looked); break;
+    case SHORT:
+        fprintf(out, "\"mode\":%u,\"wanted\":%zu,\"length_read\":%s,\"came\":%zu,", (unsigned)hint->mode, hint->wanted,
+                hint->sized ? "true" : "false", hint->looked);
+        break;
     case BYTES: fprintf(out, "\"from\":%zu,\"count\":%zu,\"looked_at\":%zu,", hint->from, hint->count, hint->looked); break;
     case FLAT:
     case FLAT_FROM: fprintf(out, "\"from\":%zu,\"count\":%zu,\"chip\":%u,", hint->from, hint->count, hint->chip); break;

@@ -176,7 +176,7 @@ static void make_capture(struct made *made, const struct arguments *asked)
     made->mode = asked->mode == NO_MODE ? draw(MODES) : asked->mode;
     made->before = made->how == LATE ? 1 + draw(40) : 0;
     made_input(&capture);
-    capture.have = draw(draw(64) > 0 ? 40 : 400);
+    capture.came = capture.have = draw(draw(64) > 0 ? 40 : 400);
     if (made->how >= FRAME)
         make_frame(made);
     switch (made->how) {
@@ -190,6 +190,7 @@ static void make_capture(struct made *made, const struct arguments *asked)
     case BAD_BYTE: capture.bytes[draw((uint32_t)made->chips)] = (uint8_t)(2 + draw(254)); break;
     default: break;
     }
+    capture.came = capture.have;
 }
 
 static const struct hint *hint_of(const struct account *account, enum hint_kind kind)
@@ -226,6 +227,7 @@ static void check_made(const struct made *made, const struct account *account)
     if (outcomes->read > 0)
         return;
     demand(made->how != LATE || hints_frame(made, hint_of(account, LATER)), "a frame that begins later is not hinted at");
+    demand(made->how != LATE || hint_of(account, CHECK) == NULL, "a frame that begins later, and is good, is called refused");
     demand(made->how != AS_DIGITS || hints_frame(made, hint_of(account, DIGITS)), "digits are not hinted at");
     demand(made->how != AS_BITS || hints_frame(made, low) || hints_frame(made, high), "packed bits are not hinted at");
     demand(made->how != FLAT_ALL || hint_of(account, FLAT) != NULL, "flat chips are not hinted at");
@@ -253,6 +255,15 @@ static void check_hint(const struct account *account, const struct hint *hint)
         demand(hint->later > 0 && hint->later < LERNAZHUP_CHIPS_MAX, "later than is looked for");
         demand(read_frame(account->outcomes.checked, hint->mode, &capture, hint->later, report).number == LERNAZHUP_DONE,
                "later, and doesn't read there");
+        break;
+    case CHECK:
+        demand(read_frame(0, hint->mode, &capture, hint->later, report).number == LERNAZHUP_DONE, "the check, of what doesn't read");
+        demand(read_frame(1, hint->mode, &capture, hint->later, report).number != LERNAZHUP_DONE, "the check, which doesn't refuse");
+        break;
+    case OTHER_MODE:
+        demand(hint->mode != account->outcomes.mode, "another mode that is the same");
+        demand(read_frame(account->outcomes.checked, hint->mode, &capture, hint->later, report).number == LERNAZHUP_DONE,
+               "another mode, which doesn't read");
         break;
     case BYTES: demand(above == hint->count && capture.bytes[hint->from] > 1, "bytes counted wrongly"); break;
     case FLAT: demand(other == 0 && hint->from == 0 && hint->count == capture.have, "flat, and isn't"); break;

@@ -15,7 +15,7 @@ HINTS = {  # those of the captures, with their numbers; "check" is that of every
     "aerial-pulled-mode1": {"hint": "flat-from", "from": 799, "count": 289, "chip": 0},
     "aerial-pulled-mode2": {"hint": "flat-from", "from": 400, "count": 144, "chip": 0},
     "aerial-unplugged": {"hint": "flat", "from": 0, "count": 15960, "chip": 0},
-    "cut-short-mode1": {"hint": "short", "mode": 1, "wanted": 1088, "came": 1000},
+    "cut-short-mode1": {"hint": "short", "mode": 1, "wanted": 1088, "length_read": True, "came": 1000},
 }
 
 
