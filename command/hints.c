@@ -122,25 +122,22 @@ static int packed(struct hints *hints, const struct input *capture)
     return find_frame(hints, PACKED_HIGH, &chips, 0, NO_MODE, 0);
 }
 
-/* Of the modes that ended with a number, the one that got farthest; a null pointer where none
- * did. */
-static const struct outcome *farthest(const struct outcomes *refused, uint32_t number)
+/* The first of the modes that ended with a number, at a symbol from `least` on; a null pointer where
+ * none did. */
+static const struct outcome *ended_with(const struct outcomes *refused, uint32_t number, uint32_t least)
 {
-    const struct outcome *best = NULL;
     size_t k;
-    for (k = 0; k < refused->tried; k++) {
-        const struct outcome *outcome = &refused->of[k];
-        if (outcome->reading.number == number && (best == NULL || refused_at(outcome) > refused_at(best)))
-            best = outcome;
-    }
-    return best;
+    for (k = 0; k < refused->tried; k++)
+        if (refused->of[k].reading.number == number && refused->of[k].reading.place >= least)
+            return &refused->of[k];
+    return NULL;
 }
 
 /* How many bytes are no chips; where a frame reads, only if another reading ended at one of them or
  * among the last bytes. */
 static void no_chips(struct hints *hints, const struct input *capture, const struct outcomes *refused)
 {
-    int ended = farthest(refused, LERNAZHUP_NOCHIP) != NULL || farthest(refused, LERNAZHUP_RUNOUT) != NULL;
+    int ended = ended_with(refused, LERNAZHUP_NOCHIP, 0) != NULL || ended_with(refused, LERNAZHUP_RUNOUT, 0) != NULL;
     size_t at = first_above_one(capture);
     struct hint *hint;
     if (at == capture->have || (hints->count > 0 && !ended))
@@ -179,13 +176,13 @@ static void flat(struct hints *hints, const struct input *capture, const struct 
     hint->chip = capture->bytes[from];
 }
 
-/* The frame that a capture may be too short for: one that chips ran out in, or one whose length was
- * read; else the shortest of the modes tried. */
+/* The frame that a capture may be too short for: one of which a symbol was read before chips ran
+ * out, or one whose length was read; else the shortest of the modes tried. */
 static const struct outcome *wanted(const struct outcomes *refused)
 {
-    const struct outcome *cut = farthest(refused, LERNAZHUP_RUNOUT), *shortest = &refused->of[0];
+    const struct outcome *cut = ended_with(refused, LERNAZHUP_RUNOUT, 1), *shortest = &refused->of[0];
     size_t k;
-    if (cut != NULL && cut->reading.place > 0)
+    if (cut != NULL)
         return cut;
     for (k = 0; k < refused->tried; k++) {
         if (refused->of[k].sized)
