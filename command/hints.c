@@ -28,7 +28,7 @@ static int find_frame(struct hints *hints, enum hint_kind kind, struct input *ch
     for (at = from; at < LERNAZHUP_CHIPS_MAX && input_has(chips, at + 1); at++)
         for (mode = first; mode <= last; mode++) {
             lernazhup_reading reading;
-            if (input_ends(chips) && chips->have - at < LERNAZHUP_FRAME_CHIPS(mode, 0))
+            if (chips->ended && chips->have - at < LERNAZHUP_FRAME_CHIPS(mode, 0))
                 continue; /* too few for any frame */
             reading = read_frame(checked, mode, chips, at, report);
             if (reading.number != LERNAZHUP_DONE)
@@ -209,11 +209,9 @@ static void too_short(struct hints *hints, const struct input *capture, const st
 static void find_facts(struct hints *hints, struct input *capture, const struct outcomes *refused)
 {
     int reads = hints->count > 0;
-    if (capture->have == 0) {
+    if (capture->have == 0)
         add(hints, EMPTY, capture);
-        return;
-    }
-    if (!reads && (digits(hints, capture) || packed(hints, capture)))
+    if (capture->have == 0 || digits(hints, capture) || packed(hints, capture))
         return;
     no_chips(hints, capture, refused);
     flat(hints, capture, refused);

@@ -63,11 +63,6 @@ int input_has(struct input *input, size_t count)
     return input->have >= count;
 }
 
-int input_ends(const struct input *input)
-{
-    return input->ended && input->have == input->came;
-}
-
 long long left_over(const struct input *input, size_t used)
 {
     struct stat kind;

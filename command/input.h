@@ -16,7 +16,7 @@ struct input {
     int descriptor;  /* where more comes from, until it has ended */
     int own;         /* whether it was opened here, and is to be closed */
     int ahead;       /* whether more may be read than is asked for: of a file that nobody shares */
-    int ended;       /* whether nothing comes after what came */
+    int ended;       /* whether nothing comes behind the bytes that it has */
     int failed;      /* what errno said of a read, or 0 */
     long long began; /* where in its file a regular one began, and -1 for all else */
     size_t came;     /* how many bytes were read */
@@ -37,9 +37,6 @@ void put_byte(struct input *input, uint8_t byte);
 /* Whether it has so many bytes, at most LOOKED_AT_MAX: reads on until these are there or no more
  * come. */
 int input_has(struct input *input, size_t count);
-
-/* Whether it has no more than it has. */
-int input_ends(const struct input *input);
 
 /* How many bytes stand behind the first `used`, which came; -1 where only reading on would tell. */
 long long left_over(const struct input *input, size_t used);

@@ -33,7 +33,7 @@ static lernazhup_reading read_what_came(int checked, uint32_t mode, const struct
 lernazhup_reading read_frame(int checked, uint32_t mode, struct input *capture, size_t at, uint8_t *report)
 {
     lernazhup_reading reading = read_what_came(checked, mode, capture, at, report);
-    if (reading.number != LERNAZHUP_RUNOUT || input_ends(capture))
+    if (reading.number != LERNAZHUP_RUNOUT || capture->ended)
         return reading;
     receive(capture, at, mode);
     return read_what_came(checked, mode, capture, at, report);
