@@ -43,7 +43,7 @@ octets() { # COUNT: so many octets
     head -c "$1" /dev/zero | tr '\000' 'Z'
 }
 
-contents() { # what stands in this folder, with kinds, permissions, owners, links and sums of contents
+contents() { # what stands in this folder, with kinds, permissions, owners, links and sums
     find . -exec stat -c '%n %F %a %u %i %N' '{}' + | sort && find . -type f -exec cksum '{}' + | sort
 }
 
