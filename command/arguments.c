@@ -56,18 +56,19 @@ static const char *value_of(struct arguments *asked, const char *rest, const cha
 /* A word of one letter options. One that wants a value is the last of its word. */
 static void take_letters(struct arguments *asked, const char *word, struct words *words)
 {
+    const char *letters = asked->verb == READ ? "cm" : asked->verb == LOOK ? "mo" : "cmo";
     const char *letter = word + 1, *value;
-    for (; *letter == 'c'; letter++)
+    for (; *letter == 'c' && *letters == 'c'; letter++)
         asked->checked = 1;
     if (*letter == 0)
         return;
-    if (*letter != 'm' && (*letter != 'o' || asked->verb != WRITE)) {
+    if (strchr(letters, *letter) == NULL) {
         mistake(asked, "is no option here", word);
         return;
     }
     value = value_of(asked, letter + 1, word, words);
     if (*letter == 'o')
-        asked->capture = value;
+        asked->output = value;
     else if (value != NULL)
         take_mode(asked, value);
 }
@@ -103,32 +104,43 @@ static void take_words(struct arguments *asked, struct words words)
 /* The first word; whether others may follow it. */
 static int take_verb(struct arguments *asked, const char *word)
 {
-    asked->verb = HELP;
-    if (strcmp(word, "--version") == 0)
-        asked->verb = VERSION;
-    else if (strcmp(word, "read") == 0)
-        asked->verb = READ;
-    else if (strcmp(word, "write") == 0)
-        asked->verb = WRITE;
-    else if (strcmp(word, "--help") != 0)
-        mistake(asked, "is neither read nor write", word);
-    return asked->verb == READ || asked->verb == WRITE;
+    static const char *const verbs[] = {"--help", "--version", "read", "write", "look", "pcap"};
+    enum verb verb = HELP;
+    while (verb <= PCAP && strcmp(word, verbs[verb]) != 0)
+        verb++;
+    if (verb > PCAP)
+        mistake(asked, "is none of read, write, look and pcap", word);
+    else
+        asked->verb = verb;
+    return asked->verb > VERSION;
+}
+
+/* What a verb can't do without, and what it has no use for. */
+static void check_use(struct arguments *asked)
+{
+    if (asked->verb == WRITE && asked->mode == NO_MODE)
+        mistake(asked, "write wants a mode: -m 0, -m 1 or -m 2", NULL);
+    if (asked->verb == WRITE && asked->count > 1)
+        mistake(asked, "is one report too many: a capture has one", asked->names[1]);
+    if (asked->verb == LOOK && asked->count > 1)
+        mistake(asked, "is one capture too many: a picture has one", asked->names[1]);
+    if (asked->verb == PCAP && asked->output == NULL)
+        mistake(asked, "pcap wants a file to write: -o OUT.pcap", NULL);
+    if (asked->verb == PCAP && asked->count == 0)
+        mistake(asked, "pcap wants a capture, or more: - is standard input", NULL);
 }
 
 struct arguments parse_arguments(int count, char **words)
 {
     struct arguments asked = {HELP, NO_MODE, 0, 0, NULL, NULL, 0, NULL, NULL};
     if (count < 2) {
-        mistake(&asked, "read or write?", NULL);
+        mistake(&asked, "read, write, look or pcap?", NULL);
         return asked;
     }
     if (take_verb(&asked, words[1])) {
         struct words rest = {words + 2, (size_t)count - 2};
         take_words(&asked, rest);
     }
-    if (asked.verb == WRITE && asked.mode == NO_MODE)
-        mistake(&asked, "write wants a mode: -m 0, -m 1 or -m 2", NULL);
-    if (asked.verb == WRITE && asked.count > 1)
-        mistake(&asked, "is one report too many: a capture has one", asked.names[1]);
+    check_use(&asked);
     return asked;
 }

@@ -5,18 +5,18 @@
 #include <stddef.h>
 #include <stdint.h>
 
-enum verb { HELP, VERSION, READ, WRITE };
+enum verb { HELP, VERSION, READ, WRITE, LOOK, PCAP };
 
 struct arguments {
     enum verb verb;
-    uint32_t mode;       /* that of -m; NO_MODE where none is named */
-    int checked;         /* -c */
-    int json;            /* --json */
-    const char *capture; /* that of -o; a null pointer where there is none */
-    char **names;        /* files, in the order given; - is standard input */
-    size_t count;        /* how many */
-    const char *wrong;   /* what is wrong with the use; a null pointer where nothing is */
-    const char *word;    /* the word that it is wrong with; a null pointer where it is none */
+    uint32_t mode;      /* that of -m; NO_MODE where none is named */
+    int checked;        /* -c */
+    int json;           /* --json */
+    const char *output; /* that of -o; a null pointer where there is none */
+    char **names;       /* files, in the order given; - is standard input */
+    size_t count;       /* how many */
+    const char *wrong;  /* what is wrong with the use; a null pointer where nothing is */
+    const char *word;   /* the word that it is wrong with; a null pointer where it is none */
 };
 
 /* Takes the words of a command line apart, words[0] the program's name. Names are put together at

@@ -13,6 +13,11 @@ const char *radio_of(uint32_t mode)
     return radios[mode];
 }
 
+uint32_t symbols_of_an_octet(uint32_t mode)
+{
+    return (LERNAZHUP_FRAME_CHIPS(mode, 1) - LERNAZHUP_FRAME_CHIPS(mode, 0)) / LERNAZHUP_SYMBOL_CHIPS(mode);
+}
+
 uint32_t best_gap(uint32_t mode)
 {
     return LERNAZHUP_BY_MODE(mode, 15u, 12u, 6u);

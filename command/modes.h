@@ -12,6 +12,9 @@
 /* The name of a mode's radio. */
 const char *radio_of(uint32_t mode);
 
+/* How many symbols an octet of a frame has. */
+uint32_t symbols_of_an_octet(uint32_t mode);
+
 /* The gap of a frame as sent, which is the largest of its mode. */
 uint32_t best_gap(uint32_t mode);
 

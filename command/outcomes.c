@@ -5,14 +5,7 @@
 /* Octets of a frame before its report: the preamble's, the start octet and the length octet. */
 enum { START_AT = 4, LENGTH_AT = 5, REPORT_AT = 6 };
 
-static uint32_t symbols_of_an_octet(uint32_t mode)
-{
-    return (LERNAZHUP_FRAME_CHIPS(mode, 1) - LERNAZHUP_FRAME_CHIPS(mode, 0)) / LERNAZHUP_SYMBOL_CHIPS(mode);
-}
-
-/* Has the capture read as far as the mode wants it for a frame that begins at a chip, and gives
- * what the mode's receiver then is. */
-static lernazhup_receiver receive(struct input *capture, size_t at, uint32_t mode)
+lernazhup_receiver receive(struct input *capture, size_t at, uint32_t mode)
 {
     size_t size = LERNAZHUP_SYMBOL_CHIPS(mode);
     lernazhup_receiver receiver;
@@ -76,6 +69,19 @@ void try_modes(struct outcomes *outcomes, struct input *capture, uint32_t mode, 
     }
 }
 
+const struct outcome *foremost(const struct outcomes *outcomes)
+{
+    const struct outcome *first = &outcomes->of[0];
+    size_t k;
+    for (k = 0; k < outcomes->tried; k++)
+        if (outcomes->of[k].reading.number == LERNAZHUP_DONE)
+            return &outcomes->of[k];
+    for (k = 1; k < outcomes->tried; k++)
+        if (refused_at(&outcomes->of[k]) > refused_at(first))
+            first = &outcomes->of[k];
+    return first;
+}
+
 /* What the check refuses stands behind the frame's last symbol, in none of its parts. */
 static int behind_the_frame(uint32_t number)
 {
@@ -87,16 +93,22 @@ size_t refused_at(const struct outcome *refused)
     return (size_t)refused->reading.place * LERNAZHUP_SYMBOL_CHIPS(refused->mode);
 }
 
-struct place place_of(const struct outcome *refused, const struct input *capture)
+enum part part_of(size_t octet, size_t *octet_of_part)
 {
     static const size_t first[] = {0, START_AT, LENGTH_AT, REPORT_AT};
+    enum part part = REPORT;
+    while (octet < first[part])
+        part--;
+    *octet_of_part = octet - first[part];
+    return part;
+}
+
+struct place place_of(const struct outcome *refused, const struct input *capture)
+{
     struct place place = {END, refused->reading.place / symbols_of_an_octet(refused->mode), 0, refused_at(refused)};
     if (behind_the_frame(refused->reading.number))
         return place;
-    place.part = REPORT;
-    while (place.octet < first[place.part])
-        place.part--;
-    place.octet_of_part = place.octet - first[place.part];
+    place.part = part_of(place.octet, &place.octet_of_part);
     if (refused->reading.number == LERNAZHUP_NOCHIP)
         while (capture->bytes[place.byte] <= 1)
             place.byte++;

@@ -32,12 +32,23 @@ struct outcomes {
  * chips. */
 void try_modes(struct outcomes *outcomes, struct input *capture, uint32_t mode, int checked);
 
+/* The one that gave a report, the first where several did; else the one that got farthest, in chips,
+ * the first where several got as far. */
+const struct outcome *foremost(const struct outcomes *outcomes);
+
+/* Has the capture read as far as the mode wants it for a frame that begins at a chip, and gives
+ * what the mode's receiver then is. */
+lernazhup_receiver receive(struct input *capture, size_t at, uint32_t mode);
+
 /* The frame that begins at a chip, in the profile. Reads on as far as the mode wants more chips.
  * The report has room for LERNAZHUP_REPORT_MAX octets. */
 lernazhup_reading read_frame(int checked, uint32_t mode, struct input *capture, size_t at, uint8_t *report);
 
 /* The parts of a frame, and what is behind it. */
 enum part { PREAMBLE, START, LENGTH, REPORT, END };
+
+/* Which part of a frame an octet of it is in, and which octet of that part it is. */
+enum part part_of(size_t octet, size_t *octet_of_part);
 
 /* Where a refusal stands. */
 struct place {

@@ -16,7 +16,7 @@
 
 #define ACCESS_LIST "system.posix_acl_access"
 
-static int write_all(int descriptor, const uint8_t *bytes, size_t length)
+static int write_all(int descriptor, const char *bytes, size_t length)
 {
     while (length > 0) {
         ssize_t wrote = write(descriptor, bytes, length);
@@ -64,7 +64,7 @@ static int open_beside(const char *name, mode_t access, char **beside)
 }
 
 /* 0, or what errno said. */
-static int put_in_place(const char *name, const uint8_t *bytes, size_t length, const struct stat *old)
+static int put_in_place(const char *name, const void *bytes, size_t length, const struct stat *old)
 {
     char *beside;
     int descriptor = open_beside(name, old == NULL ? 0666 : 0600, &beside), failed = 0;
@@ -85,17 +85,15 @@ static int put_in_place(const char *name, const uint8_t *bytes, size_t length, c
     return failed;
 }
 
-const char *replace_file(const char *name, const uint8_t *bytes, size_t length, int other)
+const char *replace_file(const char *name, const void *bytes, size_t length)
 {
-    struct stat old, kept;
+    struct stat old;
     sigset_t all, before;
     int failed, there = lstat(name, &old) == 0;
     if (!there && errno != ENOENT)
         return strerror(errno);
     if (there && !S_ISREG(old.st_mode))
         return "stands there and is no regular file: nothing is put in its place";
-    if (there && fstat(other, &kept) == 0 && kept.st_dev == old.st_dev && kept.st_ino == old.st_ino)
-        return "is the report itself";
     if (there && faccessat(AT_FDCWD, name, W_OK, AT_EACCESS) != 0)
         return strerror(errno);
     sigfillset(&all);

@@ -3,11 +3,10 @@
 #define REPLACE_H
 
 #include <stddef.h>
-#include <stdint.h>
 
 /* Makes the file of that name hold these bytes. One that is there is replaced only if it is a
- * regular file that may be written, and other than the one of the descriptor, and keeps its
- * permissions and owner. A null pointer, or why it could not be done: then all is as it was. */
-const char *replace_file(const char *name, const uint8_t *bytes, size_t length, int other);
+ * regular file that may be written, and keeps its permissions and owner. A null pointer, or why it
+ * could not be done: then all is as it was. */
+const char *replace_file(const char *name, const void *bytes, size_t length);
 
 #endif

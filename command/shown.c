@@ -44,15 +44,20 @@ static int turning(long code)
     return code == 0x200e || code == 0x200f || (code >= 0x2028 && code <= 0x202e) || (code >= 0x2066 && code <= 0x2069);
 }
 
+/* Whether it is shown as it is. */
+static int plain(long code)
+{
+    return code >= 0 && !control(code) && !turning(code);
+}
+
 void show_name(FILE *out, const char *name)
 {
     size_t length;
     for (; *name != 0; name += length) {
-        long code = character((const unsigned char *)name, &length);
-        if (code < 0 || control(code) || turning(code))
-            putc('.', out);
-        else
+        if (plain(character((const unsigned char *)name, &length)))
             fwrite(name, 1, length, out);
+        else
+            putc('.', out);
     }
 }
 
@@ -72,6 +77,34 @@ void show_json(FILE *out, const char *name)
             fwrite(name, 1, length, out);
     }
     putc('"', out);
+}
+
+static size_t characters(const char *name)
+{
+    size_t count, length;
+    for (count = 0; *name != 0; count++) {
+        character((const unsigned char *)name, &length);
+        name += length;
+    }
+    return count;
+}
+
+/* XML has no U+FFFE and no U+FFFF. */
+void show_xml(FILE *out, const char *name, size_t most)
+{
+    size_t count = characters(name), length;
+    fputs(count > most ? "..." : "", out);
+    for (; *name != 0; name += length, count--) {
+        long code = character((const unsigned char *)name, &length);
+        if (count > most)
+            continue;
+        if (!plain(code) || code == 0xfffe || code == 0xffff)
+            putc('.', out);
+        else if (code == '<' || code == '>' || code == '&')
+            fputs(code == '<' ? "&lt;" : code == '>' ? "&gt;" : "&amp;", out);
+        else
+            fwrite(name, 1, length, out);
+    }
 }
 
 int shown_octet(uint8_t octet)

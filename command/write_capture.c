@@ -6,21 +6,14 @@
 
 #include "input.h"
 #include "lernazhup.h"
-#include "replace.h"
+#include "output.h"
 #include "shown.h"
-#include "standard.h"
 #include "verbs.h"
 
 struct frame {
     size_t count;
     uint8_t chips[LERNAZHUP_CHIPS_MAX];
 };
-
-static enum status useless(const char *name, const char *why)
-{
-    complain(name, why);
-    return USELESS;
-}
 
 static enum status make_frame(struct frame *frame, const struct input *report, const struct arguments *asked, const char *name)
 {
@@ -36,16 +29,10 @@ static enum status make_frame(struct frame *frame, const struct input *report, c
     return REFUSED;
 }
 
-static enum status put_out(const struct frame *frame)
-{
-    fwrite(frame->chips, 1, frame->count, stdout);
-    return written_out() ? GOOD : USELESS;
-}
-
 /* What was put where. */
 static enum status tell(const struct arguments *asked, const struct frame *frame, size_t octets)
 {
-    show_name(stdout, asked->capture);
+    show_name(stdout, asked->output);
     printf(": %zu chips, the mode %u frame of %zu octet%s%s\n", frame->count, (unsigned)asked->mode, octets, octets == 1 ? "" : "s",
            asked->checked ? " and the FCS" : "");
     return written_out() ? GOOD : USELESS;
@@ -53,11 +40,8 @@ static enum status tell(const struct arguments *asked, const struct frame *frame
 
 static enum status put_frame(const struct arguments *asked, const struct frame *frame, const struct input *report)
 {
-    const char *why;
-    if (asked->capture == NULL || strcmp(asked->capture, "-") == 0)
-        return put_out(frame);
-    why = replace_file(asked->capture, frame->chips, frame->count, report->descriptor);
-    return why == NULL ? tell(asked, frame, report->have) : useless(asked->capture, why);
+    enum status status = put_output(asked->output, frame->chips, frame->count);
+    return status == GOOD && is_a_file(asked->output) ? tell(asked, frame, report->have) : status;
 }
 
 enum status write_capture(const struct arguments *asked)
@@ -68,8 +52,10 @@ enum status write_capture(const struct arguments *asked)
     const char *told = told_name(name);
     enum status status;
     int failed;
-    if (asked->capture == NULL && isatty(STDOUT_FILENO))
+    if (asked->output == NULL && isatty(STDOUT_FILENO))
         return useless(NULL, "chips are not for a terminal: -o CAPTURE puts them into a file");
+    if (is_the_input(asked->output, name))
+        return useless(asked->output, "is the report itself");
     failed = open_input(&report, name);
     if (failed != 0)
         return useless(told, strerror(failed));

@@ -108,9 +108,9 @@ extern "C" {
  * rule goes or changes its meaning, so that callers have to do something (CHANGELOG.md says what);
  * the minor number where something is added; the last where nothing changes that a caller sees. */
 #define LERNAZHUP_VERSION_MAJOR 4
-#define LERNAZHUP_VERSION_MINOR 1
+#define LERNAZHUP_VERSION_MINOR 2
 #define LERNAZHUP_VERSION_PATCH 0
-#define LERNAZHUP_VERSION "4.1.0"
+#define LERNAZHUP_VERSION "4.2.0"
 
 /* The numbers given back. */
 #define LERNAZHUP_DONE 0u      /* done                                   write, read, push, take */

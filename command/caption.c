@@ -1,0 +1,157 @@
+/* The colours of distances are those of ColorBrewer's YlGnBu, which the colour-blind can tell apart
+ * and which stay apart in grey: the farther, the darker, and on a dark page the brighter. What is
+ * lost is crossed out, too, so that it needs no colour. Paper is always light. */
+#include "caption.h"
+
+#include "modes.h"
+#include "outcome_words.h"
+#include "shown.h"
+
+enum { NAME_SHOWN = 64, SHADES = 7, KEY_TOP = 110 };
+
+static const char style[] =
+    "<style>\n"
+    "text{font:12px \"DejaVu Sans Mono\",Menlo,Consolas,monospace;fill:#1b1f24}\n"
+    ".words{font-family:\"DejaVu Sans\",Verdana,sans-serif;font-size:13px}\n"
+    ".title,.outcome{font-weight:bold}.title{font-size:17px}.outcome{font-size:14px}\n"
+    ".page{fill:#fff}\n"
+    ".cell,.swatch{stroke:#6b7280;stroke-width:1}\n"
+    ".d0{fill:#ffffcc}.d1{fill:#c7e9b4}.d2{fill:#7fcdbb}.d3{fill:#41b6c4}.d4{fill:#1d91c0}.d5{fill:#225ea8}.d6{fill:#0c2c84}\n"
+    ".lost{fill:#f2a46f}.none{fill:#fff;stroke-dasharray:3 2}\n"
+    ".cross,.part path,.missing,.worst,.ended{fill:none;stroke:#1b1f24}\n"
+    ".worst,.ended{stroke-width:2.5}.missing{stroke-width:2;stroke-dasharray:5 4}\n"
+    ".note path{fill:#1b1f24}\n"
+    ".symbol text,.octet,.name{text-anchor:middle}\n"
+    ".value,.octet,.note text{font-weight:bold}.value{font-size:14px}\n"
+    ".margin text,.before{text-anchor:end}.margin text,.number{fill:#57606a;font-size:11px}\n"
+    ".faint{opacity:.45}\n"
+    "@media screen and (prefers-color-scheme:dark){\n"
+    "text{fill:#e6e8eb}.page{fill:#12161b}.margin text,.number{fill:#9aa4b0}.cell,.swatch{stroke:#8b95a1}\n"
+    ".d6{fill:#ffffcc}.d5{fill:#c7e9b4}.d4{fill:#7fcdbb}.d3{fill:#41b6c4}.d2{fill:#1d91c0}.d1{fill:#225ea8}.d0{fill:#0c2c84}\n"
+    ".lost{fill:#b4531a}.none{fill:#12161b}\n"
+    ".cross,.part path,.missing,.worst,.ended{stroke:#e6e8eb}.note path{fill:#e6e8eb}}\n"
+    "@page{size:A4;margin:12.8mm 10mm}@media print{svg{width:100%;height:auto}}\n"
+    "</style>\n"
+    "<rect class=\"page\" width=\"100%\" height=\"100%\"/>\n";
+
+/* The accepted distances of every mode have the whole range of shades. */
+void put_colour(FILE *out, uint32_t mode, const lernazhup_matched *symbol)
+{
+    uint32_t limit = LERNAZHUP_ACCEPTED(mode);
+    if (symbol->number == LERNAZHUP_DONE)
+        fprintf(out, "d%u", (unsigned)((symbol->nearest * (SHADES - 1) + limit / 2) / limit));
+    else
+        fputs(symbol->number == LERNAZHUP_LOST ? "lost" : "none", out);
+}
+
+static void put_outcome(FILE *out, const struct view *view)
+{
+    if (view->outcome->reading.number == LERNAZHUP_DONE) {
+        put_report(out, view->outcome);
+        fputs(view->outcome->zeros ? ", every octet of it 0: is the rope plugged in?" : "", out);
+    } else {
+        fputs("no report in ", out);
+        put_refusal(out, view->outcome, view->capture);
+    }
+}
+
+static void begin_line(FILE *out, const char *kind, int left, int line)
+{
+    fprintf(out, "<text class=\"%s\" x=\"%d\" y=\"%d\">", kind, left, line);
+}
+
+static void draw_report(FILE *out, const struct view *view, int left)
+{
+    const struct outcome *done = view->outcome;
+    begin_line(out, "words", left, 76);
+    fprintf(out, "%u of %zu chips repaired, smallest gap ", (unsigned)done->reading.count, done->chips);
+    put_gap(out, done);
+    fputs("</text>\n", out);
+    begin_line(out, "words", left, 96);
+    fputs("polarity ", out);
+    put_polarity(out, done);
+    fputs("; FCS ", out);
+    put_fcs(out, done);
+    fputs("</text>\n", out);
+}
+
+static void draw_refusal(FILE *out, const struct view *view, int left)
+{
+    const struct symbols *symbols = &view->symbols;
+    begin_line(out, "words", left, 76);
+    fprintf(out, "%zu symbol%s read", symbols->read, symbols->read == 1 ? "" : "s");
+    if (view->outcome->sized)
+        fprintf(out, " of %zu", view->outcome->chips / LERNAZHUP_SYMBOL_CHIPS(view->outcome->mode));
+    if (symbols->read > 0)
+        fprintf(out, ", the smallest gap among them %u", (unsigned)gap_of(&symbols->of[symbols->worst]));
+    fputs("</text>\n", out);
+    begin_line(out, "words", left, 96);
+    if (symbols->count > symbols->read + 1)
+        fputs("What is faint was not read: it shows what each symbol by itself is nearest to.", out);
+    fputs("</text>\n", out);
+}
+
+/* A swatch of the colour that such a symbol has; gives where its text begins. */
+static int draw_swatch(FILE *out, uint32_t mode, const lernazhup_matched *symbol, int left)
+{
+    fputs("<rect class=\"swatch ", out);
+    put_colour(out, mode, symbol);
+    fprintf(out, "\" x=\"%d\" y=\"%d\" width=\"26\" height=\"16\"/>", left, KEY_TOP);
+    if (symbol->number == LERNAZHUP_LOST)
+        fprintf(out, "<path class=\"cross\" d=\"M%d %dl26 16m0 -16l-26 16\"/>", left, KEY_TOP);
+    return left + 32;
+}
+
+static void draw_key(FILE *out, uint32_t mode, int left)
+{
+    lernazhup_matched symbol = {LERNAZHUP_DONE, 0, 0, 0};
+    uint32_t limit = LERNAZHUP_ACCEPTED(mode);
+    begin_line(out, "words", left, KEY_TOP + 13);
+    fputs("chips from the nearest word</text>\n", out);
+    for (left += 204; symbol.nearest <= limit; symbol.nearest++, left += 26) {
+        left = draw_swatch(out, mode, &symbol, left);
+        begin_line(out, "words", left, KEY_TOP + 13);
+        fprintf(out, "%u</text>\n", (unsigned)symbol.nearest);
+    }
+    symbol.number = LERNAZHUP_LOST;
+    left = draw_swatch(out, mode, &symbol, left + 20);
+    begin_line(out, "words", left, KEY_TOP + 13);
+    fprintf(out, "above %u: lost</text>\n", (unsigned)limit);
+    symbol.number = LERNAZHUP_NOCHIP;
+    left = draw_swatch(out, mode, &symbol, left + 120);
+    begin_line(out, "words", left, KEY_TOP + 13);
+    fputs("no chips</text>\n", out);
+}
+
+/* What the numbers are. */
+static void draw_legend(FILE *out, uint32_t mode, int left)
+{
+    draw_key(out, mode, left);
+    begin_line(out, "words", left, KEY_TOP + 38);
+    fputs("nearest and next: in how many chips a symbol differs from the nearest code word, and from the nearest of the others</text>\n", out);
+    begin_line(out, "words", left, KEY_TOP + 58);
+    fputs(mode == 0 ? "value: the encoded bit. An octet's bits are the lowest first, 1 where a value differs from the one before</text>\n"
+                    : "value: in hex. An octet's low half comes first</text>\n",
+          out);
+}
+
+void draw_caption(FILE *out, const struct view *view, int left)
+{
+    fputs("<title>", out);
+    show_xml(out, view->name, NAME_SHOWN);
+    fputs(": ", out);
+    put_outcome(out, view);
+    fputs("</title>\n", out);
+    fputs(style, out);
+    begin_line(out, "words title", left, 30);
+    show_xml(out, view->name, NAME_SHOWN);
+    fputs("</text>\n", out);
+    begin_line(out, "words outcome", left, 54);
+    put_outcome(out, view);
+    fputs("</text>\n", out);
+    if (view->outcome->reading.number == LERNAZHUP_DONE)
+        draw_report(out, view, left);
+    else
+        draw_refusal(out, view, left);
+    draw_legend(out, view->outcome->mode, left);
+}

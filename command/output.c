@@ -1,0 +1,37 @@
+/* What is made is made whole before any of it is put anywhere. */
+#define _POSIX_C_SOURCE 200809L
+#include "output.h"
+
+#include <stdio.h>
+#include <string.h>
+#include <sys/stat.h>
+#include <unistd.h>
+
+#include "replace.h"
+
+int is_a_file(const char *output)
+{
+    return output != NULL && strcmp(output, "-") != 0;
+}
+
+/* A link is not replaced, whatever it leads to; one that is read is what it leads to. */
+int is_the_input(const char *output, const char *input)
+{
+    struct stat old, read;
+    if (!is_a_file(output) || lstat(output, &old) != 0 || !S_ISREG(old.st_mode))
+        return 0;
+    if ((strcmp(input, "-") == 0 ? fstat(STDIN_FILENO, &read) : stat(input, &read)) != 0)
+        return 0;
+    return old.st_dev == read.st_dev && old.st_ino == read.st_ino;
+}
+
+enum status put_output(const char *output, const void *bytes, size_t length)
+{
+    const char *why;
+    if (is_a_file(output)) {
+        why = replace_file(output, bytes, length);
+        return why == NULL ? GOOD : useless(output, why);
+    }
+    fwrite(bytes, 1, length, stdout);
+    return written_out() ? GOOD : USELESS;
+}

@@ -1,0 +1,19 @@
+/* Where something that was made is put: a file, or standard output. It is named as by -o: a null
+ * pointer or - is standard output. */
+#ifndef OUTPUT_H
+#define OUTPUT_H
+
+#include <stddef.h>
+
+#include "standard.h"
+
+int is_a_file(const char *output);
+
+/* Whether it is a file that is there and is read, too, by that name or another; - is standard
+ * input. */
+int is_the_input(const char *output, const char *input);
+
+/* Puts bytes there. A file that is there is replaced, whole or not at all. */
+enum status put_output(const char *output, const void *bytes, size_t length);
+
+#endif

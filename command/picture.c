@@ -1,0 +1,263 @@
+/* Rows of cells, each a symbol, with the parts of the frame above them and numbers below. All is
+ * placed in whole pixels, and only as many rows are drawn as a frame can have: hence the bound on
+ * the size. The caption is as high as two rows, and a printed page as fifteen, so that no row is cut
+ * by the end of a page (but where two notes made one of the rows before it higher). */
+#include "picture.h"
+
+#include "caption.h"
+#include "modes.h"
+#include "shown.h"
+
+enum {
+    LEFT = 72, /* of the first cell; before it stands what the lines of a row are */
+    ROW_WIDTH = 1024,
+    MARGIN = 16,
+    WIDTH = LEFT + ROW_WIDTH + MARGIN,
+    /* in a row, from its top */
+    PART_TEXT = 14,
+    PART_LINE = 17,
+    CELL_TOP = 23,
+    CELL_HEIGHT = 20,
+    VALUE_TEXT = 57,
+    NEAREST_TEXT = 70,
+    NEXT_TEXT = 82,
+    NOTES_TOP = 86,
+    ROW_HEIGHT = CAPTION_HEIGHT / 2,
+    NOTE_HEIGHT = 16
+};
+
+/* Where a row stands, and which symbols it has. */
+struct row {
+    size_t first, behind;
+    int top;
+};
+
+static int cell_width(const struct view *view)
+{
+    return ROW_WIDTH / (int)row_of(view->outcome->mode);
+}
+
+static int cell_left(const struct view *view, const struct row *row, size_t at)
+{
+    return LEFT + cell_width(view) * (int)(at - row->first);
+}
+
+static int refused(const struct view *view)
+{
+    return view->outcome->reading.number != LERNAZHUP_DONE;
+}
+
+/* Places in rows: one for each symbol, and where chips ran out one for what is not there. */
+static size_t places(const struct view *view)
+{
+    return view->symbols.count + (view->outcome->reading.number == LERNAZHUP_RUNOUT);
+}
+
+/* The last symbol of a frame, or the one that was refused. */
+static size_t reading_ended_at(const struct view *view)
+{
+    return refused(view) ? view->symbols.read : view->symbols.read - 1;
+}
+
+static void put_title(FILE *out, const struct view *view, size_t at)
+{
+    const lernazhup_matched *symbol = &view->symbols.of[at];
+    size_t size = LERNAZHUP_SYMBOL_CHIPS(view->outcome->mode), from = at * size, k;
+    fprintf(out, "<title>symbol %zu, bytes %zu to %zu: ", at, from, from + size - 1);
+    if (symbol->number == LERNAZHUP_NOCHIP) {
+        for (k = from; view->capture->bytes[k] <= 1; k++)
+            ;
+        fprintf(out, "byte %zu is %u, which is no chip", k, view->capture->bytes[k]);
+    } else {
+        fprintf(out, "value %x, nearest %u, next %u, gap %u", (unsigned)symbol->word, (unsigned)symbol->nearest, (unsigned)symbol->next,
+                (unsigned)gap_of(symbol));
+        fputs(symbol->number == LERNAZHUP_LOST ? ", lost" : "", out);
+    }
+    fputs(at > view->symbols.read ? "; not read</title>" : "</title>", out);
+}
+
+/* A rectangle of the size of a cell, or larger by some pixels on every side; cells are two apart. */
+static void put_rect(FILE *out, const struct view *view, int left, int top, int larger)
+{
+    fprintf(out, "x=\"%d\" y=\"%d\" width=\"%d\" height=\"%d\"/>", left + 1 - larger, top - larger, cell_width(view) - 2 + 2 * larger,
+            CELL_HEIGHT + 2 * larger);
+}
+
+static void draw_cell(FILE *out, const struct view *view, size_t at, int left, int top)
+{
+    const lernazhup_matched *symbol = &view->symbols.of[at];
+    int width = cell_width(view) - 2;
+    fputs("<rect class=\"cell ", out);
+    put_colour(out, view->outcome->mode, symbol);
+    fputs("\" ", out);
+    put_rect(out, view, left, top, 0);
+    if (symbol->number == LERNAZHUP_LOST)
+        fprintf(out, "<path class=\"cross\" d=\"M%d %dl%d %dm0 %dl%d %d\"/>", left + 1, top, width, CELL_HEIGHT, -CELL_HEIGHT, -width, CELL_HEIGHT);
+    if ((refused(view) && at == view->symbols.read) || (at == view->symbols.worst && at < view->symbols.read)) {
+        fprintf(out, "<rect class=\"%s\" ", at < view->symbols.read ? "worst" : "ended");
+        put_rect(out, view, left, top, 3);
+    }
+}
+
+/* A number under a symbol. */
+static void put_under(FILE *out, const char *kind, int middle, int line, const char *form, uint32_t number)
+{
+    fprintf(out, "<text class=\"%s\" x=\"%d\" y=\"%d\">", kind, middle, line);
+    fprintf(out, form, (unsigned)number);
+    fputs("</text>", out);
+}
+
+static void draw_symbol(FILE *out, const struct view *view, const struct row *row, size_t at)
+{
+    const lernazhup_matched *symbol = &view->symbols.of[at];
+    int left = cell_left(view, row, at), middle = left + cell_width(view) / 2;
+    fprintf(out, "<g class=\"symbol%s\">", at > view->symbols.read ? " faint" : "");
+    put_title(out, view, at);
+    draw_cell(out, view, at, left, row->top + CELL_TOP);
+    if (symbol->number != LERNAZHUP_NOCHIP) {
+        put_under(out, "value", middle, row->top + VALUE_TEXT, "%x", symbol->word);
+        put_under(out, "nearest", middle, row->top + NEAREST_TEXT, "%u", symbol->nearest);
+        put_under(out, "next", middle, row->top + NEXT_TEXT, "%u", symbol->next);
+    }
+    fputs("</g>\n", out);
+}
+
+/* What is known of an octet: its part, and of one that was read its value, too, in ASCII where that
+ * shows something. */
+static void put_part(FILE *out, const struct view *view, enum part part, size_t octet_of_part, int read)
+{
+    static const char *const names[] = {"preamble", "start", "length", ""};
+    fputs(names[part], out);
+    if (part == LENGTH && read)
+        fprintf(out, " %u", (unsigned)view->receiver.length);
+    if (part == REPORT && read) {
+        uint8_t octet = view->receiver.octets[octet_of_part];
+        char shown[2] = {(char)octet, 0};
+        fprintf(out, "%02x", octet);
+        if (octet > 0x20 && octet < 0x7f) {
+            putc(' ', out);
+            show_xml(out, shown, 1);
+        }
+    }
+}
+
+/* A bracket over symbols, and what they are. */
+static void draw_part(FILE *out, const struct view *view, const struct row *row, size_t at, size_t behind)
+{
+    int left = cell_left(view, row, at) + 2, right = cell_left(view, row, behind) - 2;
+    size_t octet = at / symbols_of_an_octet(view->outcome->mode), octet_of_part;
+    enum part part = part_of(octet, &octet_of_part);
+    int read = behind <= view->symbols.read;
+    fprintf(out, "<g class=\"part%s\"><path d=\"M%d %dv-3h%dv3\"/>", at > view->symbols.read ? " faint" : "", left, row->top + PART_LINE + 3,
+            right - left);
+    if (part == REPORT)
+        fprintf(out, "<text class=\"number\" x=\"%d\" y=\"%d\">%zu</text>", left, row->top + PART_TEXT, octet_of_part);
+    fprintf(out, "<text class=\"%s\" x=\"%d\" y=\"%d\">", part == REPORT ? "octet" : "name", (left + right) / 2, row->top + PART_TEXT);
+    put_part(out, view, part, octet_of_part, read);
+    fputs("</text></g>\n", out);
+}
+
+/* The preamble has one bracket a row, all else one an octet. */
+static void draw_parts(FILE *out, const struct view *view, const struct row *row)
+{
+    size_t per = symbols_of_an_octet(view->outcome->mode), at, next, ignored;
+    for (at = row->first; at < row->behind; at = next) {
+        next = at + per;
+        while (part_of(at / per, &ignored) == PREAMBLE && part_of(next / per, &ignored) == PREAMBLE)
+            next += per;
+        next = next < row->behind ? next : row->behind;
+        draw_part(out, view, row, at, next);
+    }
+}
+
+/* A triangle under a symbol, and text beside it, on that side where there is more room. */
+static void begin_note(FILE *out, const struct view *view, const struct row *row, size_t at, int top)
+{
+    int middle = cell_left(view, row, at) + cell_width(view) / 2, leftmost = at - row->first < row_of(view->outcome->mode) / 2;
+    fprintf(out, "<g class=\"note\"><path d=\"M%d %dl-5 9h10z\"/><text class=\"%s\" x=\"%d\" y=\"%d\">", middle, top + 2,
+            leftmost ? "after" : "before", leftmost ? middle + 9 : middle - 9, top + 11);
+}
+
+static void note_worst(FILE *out, const struct view *view)
+{
+    const struct symbols *symbols = &view->symbols;
+    fprintf(out, "smallest gap: %u here", (unsigned)gap_of(&symbols->of[symbols->worst]));
+    if (symbols->as_bad > 1)
+        fprintf(out, ", and in %zu more symbol%s", symbols->as_bad - 1, symbols->as_bad == 2 ? "" : "s");
+    fputs("</text></g>\n", out);
+}
+
+static void note_end(FILE *out, const struct view *view)
+{
+    uint32_t number = view->outcome->reading.number;
+    size_t size = LERNAZHUP_SYMBOL_CHIPS(view->outcome->mode);
+    if (number == LERNAZHUP_DONE)
+        fputs("the frame ends here", out);
+    else
+        fprintf(out, "the reading ended here: %u, %s", (unsigned)number, lernazhup_meaning(number));
+    if (number == LERNAZHUP_RUNOUT)
+        fprintf(out, ": %zu of %zu came", view->capture->have % size, size);
+    fputs("</text></g>\n", out);
+}
+
+/* There is a line for notes in each row; gives the height of what goes below it. */
+static int draw_notes(FILE *out, const struct view *view, const struct row *row)
+{
+    size_t worst = view->symbols.worst, ended = reading_ended_at(view);
+    int lines = 0;
+    if (view->symbols.read > 0 && worst >= row->first && worst < row->behind) {
+        begin_note(out, view, row, worst, row->top + NOTES_TOP);
+        note_worst(out, view);
+        lines++;
+    }
+    if (ended >= row->first && ended < row->behind) {
+        begin_note(out, view, row, ended, row->top + NOTES_TOP + NOTE_HEIGHT * lines);
+        note_end(out, view);
+        lines++;
+    }
+    return lines > 1 ? NOTE_HEIGHT : 0;
+}
+
+/* What the lines of a row are, and the number of its first symbol. */
+static void draw_margin(FILE *out, const struct row *row)
+{
+    static const struct {
+        int line;
+        const char *name;
+    } lines[] = {{VALUE_TEXT, "value"}, {NEAREST_TEXT, "nearest"}, {NEXT_TEXT, "next"}};
+    size_t k;
+    fprintf(out, "<g class=\"margin\"><text x=\"%d\" y=\"%d\">%zu</text>", LEFT - 8, row->top + CELL_TOP + 14, row->first);
+    for (k = 0; k < sizeof lines / sizeof *lines; k++)
+        fprintf(out, "<text x=\"%d\" y=\"%d\">%s</text>", LEFT - 8, row->top + lines[k].line, lines[k].name);
+    fputs("</g>\n", out);
+}
+
+/* Gives its height. */
+static int draw_row(FILE *out, const struct view *view, const struct row *row)
+{
+    size_t at;
+    draw_margin(out, row);
+    draw_parts(out, view, row);
+    for (at = row->first; at < row->behind && at < view->symbols.count; at++)
+        draw_symbol(out, view, row, at);
+    if (at < row->behind) {
+        fputs("<rect class=\"missing\" ", out);
+        put_rect(out, view, cell_left(view, row, at), row->top + CELL_TOP, 0);
+    }
+    return ROW_HEIGHT + draw_notes(out, view, row);
+}
+
+void draw_picture(FILE *out, const struct view *view)
+{
+    size_t length = row_of(view->outcome->mode), count = places(view), rows = (count + length - 1) / length;
+    int height = CAPTION_HEIGHT + (int)rows * ROW_HEIGHT + NOTE_HEIGHT;
+    struct row row = {0, 0, CAPTION_HEIGHT};
+    fputs("<?xml version=\"1.0\" encoding=\"UTF-8\"?>\n", out);
+    fprintf(out, "<svg xmlns=\"http://www.w3.org/2000/svg\" width=\"%d\" height=\"%d\" viewBox=\"0 0 %d %d\">\n", WIDTH, height, WIDTH, height);
+    draw_caption(out, view, MARGIN);
+    for (; row.first < count; row.first = row.behind) {
+        row.behind = row.first + length < count ? row.first + length : count;
+        row.top += draw_row(out, view, &row);
+    }
+    fputs("</svg>\n", out);
+}
