@@ -5,6 +5,7 @@
 #                 environment's too), REPORT=file, OUT=file
 # make check      programs, library and tests from outside: two or three minutes, less where all
 #                 is proved already; SEED=.. and CASES=.. repeat a comparison, SEED=.. the fuzzer
+#                 and the pictures drawn at random
 # make test       the gate: make check, then every proof from nothing (`rt ci`)
 # make lib        build/liblernazhup.a, build/lernazhup.h and build/lernazhup.pc, for C
 # make shared     build/liblernazhup.so
@@ -67,15 +68,16 @@ COMPARED = compare compared_calls chip_cases octet_cases record_cases lent_memor
 TIMED = usual_read best_read copying_write usual_fcs
 # programs of one file
 SINGLE = build/gateway build/struct_fields build/header_macros build/vectors build/frame_check build/stack
-# the command, and of it what its fuzzer stands on
+# the command, and of it what its tests stand on
 COMMAND = $(wildcard command/*.c)
-FUZZED = $(filter-out command/lernazhup.c,$(COMMAND))
+TRIED = $(filter-out command/lernazhup.c,$(COMMAND))
 vpath %.c example tests measure comparison
 
 # some of the captures are there to be refused, which is status 1
 ifeq ($(CAPTURE),)
 run: profile programs lib build/lernazhup build/gateway send
 	@tools/exec build/lernazhup read captures/*.raw || [ $$? -eq 1 ]
+	@tools/exec build/lernazhup look -o build/picture.svg captures/wet-mode1-noisy.raw
 	@programs/bench captures/*.raw || [ $$? -eq 1 ]
 	@tools/exec build/gateway
 else
@@ -104,7 +106,7 @@ test: check
 # every test from outside; each prints a line of counts, and fails where something is wrong. The
 # comparison and the fuzzer take one core for as long as all that stand before the faults, and run
 # beside them.
-outside: $(SINGLE) build/compare build/speed $(SHARED) build/lernazhup build/lernazhup-sanitized build/fuzz_command
+outside: $(SINGLE) build/compare build/speed $(SHARED) build/lernazhup build/lernazhup-sanitized build/fuzz_command build/drawn_captures
 	@{ comparison/compare-test "$$SEED" "$$CASES" && tests/fuzz-test "$$SEED"; } >build/compare.said 2>&1 & compared=$$!; \
 	tests/contracts-test && \
 	tests/header-test && \
@@ -120,6 +122,8 @@ outside: $(SINGLE) build/compare build/speed $(SHARED) build/lernazhup build/ler
 	tests/command-help-test && \
 	tests/command-read-test && \
 	tests/command-write-test && \
+	tests/command-look-test "$$SEED" && \
+	tests/command-pcap-test && \
 	tools/exec build/stack && \
 	measure/sizes; others=$$?; \
 	wait $$compared; status=$$?; cat build/compare.said; [ $$others -eq 0 ] && [ $$status -eq 0 ]
@@ -158,12 +162,18 @@ command: build/lernazhup
 build/lernazhup: $(COMMAND) $(wildcard command/*.h) build/lernazhup.h $(ARCHIVE) $(TOOLS)
 	@$(CC) $(CFLAGS) -Ibuild $(COMMAND) $(ARCHIVE) -o $@
 
-# for its tests; what makes the command anew makes them anew
-build/lernazhup-sanitized: build/lernazhup
-	@flags=$$(tools/sanitizer-flags) && $(CC) $(CFLAGS) -Ibuild -g $$flags $(COMMAND) $(ARCHIVE) -o $@
+# for its tests, and once for all of them; what makes the command anew makes them anew
+build/command-sanitized.a: build/lernazhup
+	@rm -rf $@ build/sanitized && mkdir build/sanitized
+	@flags=$$(tools/sanitizer-flags) && for part in $(TRIED:command/%.c=%); do \
+	$(CC) $(CFLAGS) -Ibuild -g $$flags -c command/$$part.c -o build/sanitized/$$part.o || exit 1; done
+	@tools/binutils ar rc $@ build/sanitized/*.o
 
-build/fuzz_command: fuzz_command.c build/lernazhup
-	@flags=$$(tools/sanitizer-flags) && $(CC) $(CFLAGS) -Ibuild -Icommand -g $$flags $< $(FUZZED) $(ARCHIVE) -o $@
+build/lernazhup-sanitized: command/lernazhup.c build/command-sanitized.a
+	@flags=$$(tools/sanitizer-flags) && $(CC) $(CFLAGS) -Ibuild -g $$flags $^ $(ARCHIVE) -o $@
+
+build/fuzz_command build/drawn_captures: build/%: %.c made_captures.c tests/made_captures.h build/command-sanitized.a
+	@flags=$$(tools/sanitizer-flags) && $(CC) $(CFLAGS) -Ibuild -Icommand -g $$flags $(filter-out %.h,$^) $(ARCHIVE) -o $@
 
 shared: $(SHARED) build/lernazhup.h
 	@:

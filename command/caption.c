@@ -22,7 +22,7 @@ static const char style[] =
     ".worst,.ended{stroke-width:2.5}.missing{stroke-width:2;stroke-dasharray:5 4}\n"
     ".note path{fill:#1b1f24}\n"
     ".symbol text,.octet,.name{text-anchor:middle}\n"
-    ".value,.octet,.note text{font-weight:bold}.value{font-size:14px}\n"
+    ".value,.octet,.note text{font-weight:bold}.value{font-size:14px}.struck{text-decoration:line-through}\n"
     ".margin text,.before{text-anchor:end}.margin text,.number{fill:#57606a;font-size:11px}\n"
     ".faint{opacity:.45}\n"
     "@media screen and (prefers-color-scheme:dark){\n"
@@ -120,7 +120,7 @@ static void draw_key(FILE *out, uint32_t mode, int left)
     symbol.number = LERNAZHUP_NOCHIP;
     left = draw_swatch(out, mode, &symbol, left + 120);
     begin_line(out, "words", left, KEY_TOP + 13);
-    fputs("no chips</text>\n", out);
+    fputs("a byte that is no chip</text>\n", out);
 }
 
 /* What the numbers are. */

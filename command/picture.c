@@ -115,7 +115,7 @@ static void draw_symbol(FILE *out, const struct view *view, const struct row *ro
     put_title(out, view, at);
     draw_cell(out, view, at, left, row->top + CELL_TOP);
     if (symbol->number != LERNAZHUP_NOCHIP) {
-        put_under(out, "value", middle, row->top + VALUE_TEXT, "%x", symbol->word);
+        put_under(out, symbol->number == LERNAZHUP_LOST ? "value struck" : "value", middle, row->top + VALUE_TEXT, "%x", symbol->word);
         put_under(out, "nearest", middle, row->top + NEAREST_TEXT, "%u", symbol->nearest);
         put_under(out, "next", middle, row->top + NEXT_TEXT, "%u", symbol->next);
     }

@@ -29,6 +29,25 @@ says() {
     ends "$case" $? "$status" "$out" "$err"
 }
 
+wrong() { # CASE LINE: wrong use, told so, with the arguments after that
+    case=$1 line=$2
+    shift 2
+    says "$case" 2 '' "lernazhup: $line/lernazhup --help tells more/" "$@"
+}
+
+# stays CASE STATUS LINES: the verb $name, with the arguments after that, says so on standard error,
+# and what stands in this folder stays as it was
+stays() {
+    case=$1 status=$2 line=$3
+    shift 3
+    contents >"$room/before" 2>&1
+    lernazhup "$name" "$@" >"$room/out" 2>"$room/err"
+    ends "$case" $? "$status" '' "lernazhup: $line/"
+    contents >"$room/after" 2>&1
+    cmp -s "$room/before" "$room/after"
+    result "$case: all is as it was" $?
+}
+
 has() { # CASE TEXT: one of the lines in $room/out has this text
     verdict "$1" "$(grep -qF -e "$2" "$room/out" || echo "'$(tr '\n' / <"$room/out")' has no '$2'")"
 }
@@ -59,4 +78,8 @@ a_terminal() {
 on_a_full_disk() {
     mkdir -p "$room/disk"
     unshare -rm sh -c 'mount -t tmpfs -o size=4k none "$0" && cd "$0" && eval "$1"' "$room/disk" "$1"
+}
+
+flat_chips() { # COUNT CHIP: so many
+    head -c "$1" /dev/zero | tr '\000' "\\00$2"
 }

@@ -1,6 +1,6 @@
 /* A fuzzer for the command: arguments and captures drawn at random, taken apart, read, searched for
- * hints and told, all in one process. Each answer is held against how the input was made, and what
- * is told against what a terminal and a reader of JSON can take.
+ * hints, told and now and then drawn, all in one process. Each answer is held against how the input
+ * was made, and what is told against what a terminal and a reader of JSON can take.
  *   fuzz_command SEED INPUTS
  * The same seed gives the same inputs. Exits with 1 at the first that goes wrong. */
 #define _POSIX_C_SOURCE 200809L
@@ -12,7 +12,9 @@
 #include "arguments.h"
 #include "hints.h"
 #include "lernazhup.h"
+#include "made_captures.h"
 #include "modes.h"
+#include "picture.h"
 #include "tell.h"
 
 static unsigned long long seed, input_number;
@@ -44,12 +46,13 @@ static struct arguments try_arguments(void)
 {
     static char rooms[WORDS_MAX][WORD_MAX + 1];
     static char *given[WORDS_MAX], *words[WORDS_MAX];
+    static const char *const verbs[] = {"read", "read", "read", "write", "look", "pcap"};
     int count = (int)draw(WORDS_MAX + 1), k;
     struct arguments asked;
     for (k = 0; k < count; k++)
         given[k] = words[k] = draw_word(rooms[k]); /* no two at one place */
     if (count > 1 && draw(8) > 0)
-        strcpy(words[1], draw(4) > 0 ? "read" : "write");
+        strcpy(words[1], verbs[draw(sizeof verbs / sizeof *verbs)]);
     asked = parse_arguments(count, words);
     demand(asked.mode == NO_MODE || LERNAZHUP_SYMBOL_CHIPS(asked.mode) > 0, "a mode that no radio has");
     demand(asked.word == NULL || asked.wrong != NULL, "a wrong word, and nothing wrong");
@@ -57,8 +60,11 @@ static struct arguments try_arguments(void)
         return asked;
     check_names(&asked, given, count);
     demand(asked.verb != WRITE || (asked.mode != NO_MODE && asked.count < 2), "write with too little or too much");
-    demand(asked.verb != READ || asked.capture == NULL, "a capture to write that nobody asked for");
-    demand(asked.verb != WRITE || !asked.json, "JSON that nobody asked for");
+    demand(asked.verb != LOOK || asked.count < 2, "a picture of more than one capture");
+    demand(asked.verb != PCAP || (asked.output != NULL && asked.count > 0), "packets of nothing, or to nowhere");
+    demand(asked.verb != READ || asked.output == NULL, "a file to write that nobody asked for");
+    demand(asked.verb <= READ || !asked.json, "JSON that nobody asked for");
+    demand(asked.verb != LOOK || !asked.checked, "a check that nobody asked for");
     return asked;
 }
 
@@ -247,6 +253,33 @@ static void check_told(const struct account *account, int json)
     }
 }
 
+/* Every symbol has its cell, and every tag its end, without a control character. */
+static void check_picture(const char *name, uint32_t mode)
+{
+    static char *drawn;
+    static size_t size;
+    static struct view view;
+    static FILE *out;
+    size_t k, opened = 0, closed = 0;
+    if (out == NULL)
+        out = open_memstream(&drawn, &size);
+    rewind(out);
+    see(&view, &capture, name, mode);
+    draw_picture(out, &view);
+    putc(0, out);
+    fflush(out);
+    demand(size < PICTURE_MAX, "a picture that is too large");
+    for (k = 0; k + 1 < size; k++) {
+        demand((unsigned char)drawn[k] >= 0x20 ? drawn[k] != 0x7f : drawn[k] == '\n', "a control character is drawn");
+        opened += drawn[k] == '<' && isalpha((unsigned char)drawn[k + 1]);
+        closed += (drawn[k] == '<' && drawn[k + 1] == '/') || (drawn[k] == '/' && drawn[k + 1] == '>');
+    }
+    demand(opened == closed, "tags without an end");
+    demand(times(drawn, "class=\"cell ") == view.symbols.count, "another number of cells");
+    demand(times(drawn, "<g class=\"symbol faint\">") == (view.symbols.count > view.symbols.read ? view.symbols.count - view.symbols.read - 1 : 0),
+           "another number of faint symbols");
+}
+
 /* No capture reads in two modes that we know of; if one did, both would be told. */
 static void read_twice(struct outcomes *outcomes)
 {
@@ -266,8 +299,9 @@ static void try_input(void)
     struct account account;
     struct made made;
     char name[WORD_MAX + 1];
+    uint32_t kind = draw(100);
     size_t k;
-    make_capture(&made, &asked);
+    make_capture(&capture, &made, kind < 50 ? RANDOM : kind < 88 ? CHIPS : (enum making)(FRAME + draw(MAKINGS - FRAME)), asked.mode, asked.checked);
     account.name = draw_word(name);
     account.capture = &capture;
     account.hints.count = 0;
@@ -283,6 +317,8 @@ static void try_input(void)
     }
     read_twice(&account.outcomes);
     check_told(&account, (int)draw(2));
+    if (draw(32) == 0)
+        check_picture(account.name, asked.mode);
 }
 
 int main(int count, char **arguments)
@@ -293,7 +329,7 @@ int main(int count, char **arguments)
         fprintf(stderr, "usage: fuzz_command SEED INPUTS\n");
         return 2;
     }
-    state = seed * 0x9e3779b97f4a7c15u + 1;
+    draw_from(seed);
     for (input_number = 0; input_number < inputs; input_number++)
         try_input();
     printf("fuzz: %llu inputs of seed %llu, nothing wrong\n", inputs, seed);
