@@ -1,13 +1,13 @@
-/* The colours of distances are those of ColorBrewer's YlGnBu, which the colour-blind can tell apart
- * and which stay apart in grey: the farther, the darker, and on a dark page the brighter. What is
- * lost is crossed out, too, so that it needs no colour. Paper is always light. */
+/* The colours of distances go from a light yellow by green to a dark blue, after ColorBrewer's YlGnBu:
+ * neighbours are apart to every eye, in grey as well, and mean the same on a light page and on a dark
+ * one. What is lost is crossed out, too, so that it needs no colour. Paper is always light. */
 #include "caption.h"
 
 #include "modes.h"
 #include "outcome_words.h"
 #include "shown.h"
 
-enum { NAME_SHOWN = 64, SHADES = 7, KEY_TOP = 110 };
+enum { NAME_SHOWN = 48, SHADES = 7, KEY_TOP = 110 };
 
 static const char style[] =
     "<style>\n"
@@ -15,22 +15,21 @@ static const char style[] =
     ".words{font-family:\"DejaVu Sans\",Verdana,sans-serif;font-size:13px}\n"
     ".title,.outcome{font-weight:bold}.title{font-size:17px}.outcome{font-size:14px}\n"
     ".page{fill:#fff}\n"
-    ".cell,.swatch{stroke:#6b7280;stroke-width:1}\n"
-    ".d0{fill:#ffffcc}.d1{fill:#c7e9b4}.d2{fill:#7fcdbb}.d3{fill:#41b6c4}.d4{fill:#1d91c0}.d5{fill:#225ea8}.d6{fill:#0c2c84}\n"
-    ".lost{fill:#f2a46f}.none{fill:#fff;stroke-dasharray:3 2}\n"
+    ".cell,.swatch{stroke:#6b7280}\n"
+    ".d0{fill:#ffffe8}.d1{fill:#c9eba8}.d2{fill:#94cfad}.d3{fill:#47b4ab}.d4{fill:#1d8abc}.d5{fill:#225ea8}.d6{fill:#0c2c84}\n"
+    ".lost,.bar{fill:#f2a46f}rect.none{fill:#fff;stroke-dasharray:3 2}\n"
     ".cross,.part path,.missing,.worst,.ended{fill:none;stroke:#1b1f24}\n"
-    ".worst,.ended{stroke-width:2.5}.missing{stroke-width:2;stroke-dasharray:5 4}\n"
+    ".worst,.ended{stroke-width:2.5}.ended{stroke:#b4531a}\n"
+    ".missing{stroke-dasharray:1 4}\n"
     ".note path{fill:#1b1f24}\n"
     ".symbol text,.octet,.name{text-anchor:middle}\n"
-    ".value,.octet,.note text{font-weight:bold}.value{font-size:14px}.struck{text-decoration:line-through}\n"
+    ".value,.octet,.note text{font-weight:bold}.value{font-size:14px}.refused{font-weight:normal}text.none{font-size:11px}\n"
     ".margin text,.before{text-anchor:end}.margin text,.number{fill:#57606a;font-size:11px}\n"
-    ".faint{opacity:.45}\n"
+    ".faint rect,.faint path{opacity:.5}.faint text,.faint .cross{opacity:.7}\n"
     "@media screen and (prefers-color-scheme:dark){\n"
-    "text{fill:#e6e8eb}.page{fill:#12161b}.margin text,.number{fill:#9aa4b0}.cell,.swatch{stroke:#8b95a1}\n"
-    ".d6{fill:#ffffcc}.d5{fill:#c7e9b4}.d4{fill:#7fcdbb}.d3{fill:#41b6c4}.d2{fill:#1d91c0}.d1{fill:#225ea8}.d0{fill:#0c2c84}\n"
-    ".lost{fill:#b4531a}.none{fill:#12161b}\n"
-    ".cross,.part path,.missing,.worst,.ended{stroke:#e6e8eb}.note path{fill:#e6e8eb}}\n"
-    "@page{size:A4;margin:12.8mm 10mm}@media print{svg{width:100%;height:auto}}\n"
+    "svg{background:#12161b}text{fill:#e6e8eb}.page,rect.none{fill:#12161b}.margin text,.number{fill:#9aa4b0}\n"
+    ".cell,.swatch{stroke:#8b95a1}.part path,.missing,.worst{stroke:#e6e8eb}.ended{stroke:#f2a46f}.note path{fill:#e6e8eb}}\n"
+    "@page{size:A4;margin:13.5mm 10mm}@media print{svg{width:100%;height:auto}}\n"
     "</style>\n"
     "<rect class=\"page\" width=\"100%\" height=\"100%\"/>\n";
 
@@ -60,9 +59,19 @@ static void begin_line(FILE *out, const char *kind, int left, int line)
     fprintf(out, "<text class=\"%s\" x=\"%d\" y=\"%d\">", kind, left, line);
 }
 
+/* How many of the symbols that were read have all the wrong chips that are accepted. */
+static size_t at_the_limit(const struct view *view)
+{
+    size_t count = 0, k;
+    for (k = 0; k < view->symbols.read; k++)
+        count += view->symbols.of[k].nearest == LERNAZHUP_ACCEPTED(view->outcome->mode);
+    return count;
+}
+
 static void draw_report(FILE *out, const struct view *view, int left)
 {
     const struct outcome *done = view->outcome;
+    size_t limit = at_the_limit(view);
     begin_line(out, "words", left, 76);
     fprintf(out, "%u of %zu chips repaired, smallest gap ", (unsigned)done->reading.count, done->chips);
     put_gap(out, done);
@@ -72,23 +81,28 @@ static void draw_report(FILE *out, const struct view *view, int left)
     put_polarity(out, done);
     fputs("; FCS ", out);
     put_fcs(out, done);
+    if (limit > 0)
+        fprintf(out, "; %zu symbol%s as far off as is accepted", limit, limit == 1 ? "" : "s");
     fputs("</text>\n", out);
 }
 
+/* Where no mode was named, this is the one that got farthest. */
 static void draw_refusal(FILE *out, const struct view *view, int left)
 {
     const struct symbols *symbols = &view->symbols;
     begin_line(out, "words", left, 76);
-    fprintf(out, "%zu symbol%s read", symbols->read, symbols->read == 1 ? "" : "s");
+    fputs(view->outcomes.mode == NO_MODE ? "no mode reads it, and none got farther; " : "", out);
+    fprintf(out, "%zu ", symbols->read);
     if (view->outcome->sized)
-        fprintf(out, " of %zu", view->outcome->chips / LERNAZHUP_SYMBOL_CHIPS(view->outcome->mode));
+        fprintf(out, "of %zu ", view->outcome->chips / LERNAZHUP_SYMBOL_CHIPS(view->outcome->mode));
+    fputs(symbols->read == 1 && !view->outcome->sized ? "symbol read" : "symbols read", out);
     if (symbols->read > 0)
         fprintf(out, ", the smallest gap among them %u", (unsigned)gap_of(&symbols->of[symbols->worst]));
     fputs("</text>\n", out);
-    begin_line(out, "words", left, 96);
-    if (symbols->count > symbols->read + 1)
-        fputs("What is faint was not read: it shows what each symbol by itself is nearest to.", out);
-    fputs("</text>\n", out);
+    if (symbols->count > symbols->read + 1) {
+        begin_line(out, "words", left, 96);
+        fputs("what is faint was not read: it shows what each symbol by itself is nearest to</text>\n", out);
+    }
 }
 
 /* A swatch of the colour that such a symbol has; gives where its text begins. */
@@ -128,11 +142,15 @@ static void draw_legend(FILE *out, uint32_t mode, int left)
 {
     draw_key(out, mode, left);
     begin_line(out, "words", left, KEY_TOP + 38);
-    fputs("nearest and next: in how many chips a symbol differs from the nearest code word, and from the nearest of the others</text>\n", out);
-    begin_line(out, "words", left, KEY_TOP + 58);
-    fputs(mode == 0 ? "value: the encoded bit. An octet's bits are the lowest first, 1 where a value differs from the one before</text>\n"
-                    : "value: in hex. An octet's low half comes first</text>\n",
+    fputs("nearest, next: in how many chips a symbol differs from the nearest code word and from the nearest of the others; "
+          "their difference is the gap</text>\n",
           out);
+    begin_line(out, "words", left, KEY_TOP + 58);
+    fputs(mode == 0 ? "value: the encoded bit; an octet's bits are the lowest first, 1 where a value differs from the one before</text>\n"
+                    : "value: in hex; an octet's low half comes first</text>\n",
+          out);
+    begin_line(out, "words", left, KEY_TOP + 78);
+    fputs("a row begins with the number of its first symbol; # is the number of an octet of the report, which is in hex</text>\n", out);
 }
 
 void draw_caption(FILE *out, const struct view *view, int left)

@@ -4,9 +4,9 @@
 #include <stdio.h>
 #include <stdlib.h>
 #include <string.h>
-#include <unistd.h>
 
 #include "input.h"
+#include "one_file.h"
 #include "outcome_words.h"
 #include "output.h"
 #include "picture.h"
@@ -53,19 +53,13 @@ enum status look_at_capture(const struct arguments *asked)
 {
     static struct input capture;
     static struct view view;
-    const char *name = asked->count > 0 ? asked->names[0] : "-";
-    const char *told = told_name(name);
-    enum status status;
-    int failed;
-    if (asked->output == NULL && isatty(STDOUT_FILENO))
-        return useless(NULL, "a picture is not for a terminal: -o PICTURE.svg puts it into a file");
-    if (is_the_input(asked->output, name))
-        return useless(asked->output, "is the capture itself");
-    failed = open_input(&capture, name);
-    if (failed != 0)
-        return useless(told, strerror(failed));
-    see(&view, &capture, told, asked->mode);
-    status = capture.failed != 0 ? useless(told, strerror(capture.failed)) : put_picture(asked, &view);
+    const char *name;
+    enum status status = open_only(&capture, asked, "a picture is not for a terminal: -o PICTURE.svg puts it into a file",
+                                   "is the capture itself", &name);
+    if (status != GOOD)
+        return status;
+    see(&view, &capture, name, asked->mode);
+    status = capture.failed != 0 ? useless(name, strerror(capture.failed)) : put_picture(asked, &view);
     close_input(&capture);
     return status;
 }

@@ -9,19 +9,19 @@
 #include "shown.h"
 
 enum {
-    LEFT = 72, /* of the first cell; before it stands what the lines of a row are */
+    LEFT = 78, /* of the first cell; before it stands what the lines of a row are */
     ROW_WIDTH = 1024,
     MARGIN = 16,
     WIDTH = LEFT + ROW_WIDTH + MARGIN,
     /* in a row, from its top */
-    PART_TEXT = 14,
-    PART_LINE = 17,
-    CELL_TOP = 23,
+    PART_TEXT = 13,
+    PART_LINE = 18,
+    CELL_TOP = 24,
     CELL_HEIGHT = 20,
-    VALUE_TEXT = 57,
-    NEAREST_TEXT = 70,
-    NEXT_TEXT = 82,
-    NOTES_TOP = 86,
+    VALUE_TEXT = 59,
+    NEAREST_TEXT = 72,
+    NEXT_TEXT = 84,
+    NOTES_TOP = 88,
     ROW_HEIGHT = CAPTION_HEIGHT / 2,
     NOTE_HEIGHT = 16
 };
@@ -59,19 +59,26 @@ static size_t reading_ended_at(const struct view *view)
     return refused(view) ? view->symbols.read : view->symbols.read - 1;
 }
 
+/* The first of a symbol's bytes that is no chip. */
+static size_t no_chip(const struct view *view, size_t from)
+{
+    while (view->capture->bytes[from] <= 1)
+        from++;
+    return from;
+}
+
+/* What is lost has no value, only a word that it is nearest to. */
 static void put_title(FILE *out, const struct view *view, size_t at)
 {
     const lernazhup_matched *symbol = &view->symbols.of[at];
-    size_t size = LERNAZHUP_SYMBOL_CHIPS(view->outcome->mode), from = at * size, k;
+    size_t size = LERNAZHUP_SYMBOL_CHIPS(view->outcome->mode), from = at * size, byte;
     fprintf(out, "<title>symbol %zu, bytes %zu to %zu: ", at, from, from + size - 1);
     if (symbol->number == LERNAZHUP_NOCHIP) {
-        for (k = from; view->capture->bytes[k] <= 1; k++)
-            ;
-        fprintf(out, "byte %zu is %u, which is no chip", k, view->capture->bytes[k]);
+        byte = no_chip(view, from);
+        fprintf(out, "byte %zu is %u, which is no chip", byte, view->capture->bytes[byte]);
     } else {
-        fprintf(out, "value %x, nearest %u, next %u, gap %u", (unsigned)symbol->word, (unsigned)symbol->nearest, (unsigned)symbol->next,
-                (unsigned)gap_of(symbol));
-        fputs(symbol->number == LERNAZHUP_LOST ? ", lost" : "", out);
+        fprintf(out, symbol->number == LERNAZHUP_LOST ? "lost, nearest to %x: " : "value %x, ", (unsigned)symbol->word);
+        fprintf(out, "nearest %u, next %u, gap %u", (unsigned)symbol->nearest, (unsigned)symbol->next, (unsigned)gap_of(symbol));
     }
     fputs(at > view->symbols.read ? "; not read</title>" : "</title>", out);
 }
@@ -93,13 +100,9 @@ static void draw_cell(FILE *out, const struct view *view, size_t at, int left, i
     put_rect(out, view, left, top, 0);
     if (symbol->number == LERNAZHUP_LOST)
         fprintf(out, "<path class=\"cross\" d=\"M%d %dl%d %dm0 %dl%d %d\"/>", left + 1, top, width, CELL_HEIGHT, -CELL_HEIGHT, -width, CELL_HEIGHT);
-    if ((refused(view) && at == view->symbols.read) || (at == view->symbols.worst && at < view->symbols.read)) {
-        fprintf(out, "<rect class=\"%s\" ", at < view->symbols.read ? "worst" : "ended");
-        put_rect(out, view, left, top, 3);
-    }
 }
 
-/* A number under a symbol. */
+/* What stands under a symbol, on one of the lines. */
 static void put_under(FILE *out, const char *kind, int middle, int line, const char *form, uint32_t number)
 {
     fprintf(out, "<text class=\"%s\" x=\"%d\" y=\"%d\">", kind, middle, line);
@@ -114,16 +117,19 @@ static void draw_symbol(FILE *out, const struct view *view, const struct row *ro
     fprintf(out, "<g class=\"symbol%s\">", at > view->symbols.read ? " faint" : "");
     put_title(out, view, at);
     draw_cell(out, view, at, left, row->top + CELL_TOP);
+    if (symbol->number == LERNAZHUP_DONE)
+        put_under(out, "value", middle, row->top + VALUE_TEXT, "%x", symbol->word);
+    else
+        put_under(out, "none", middle, row->top + VALUE_TEXT, symbol->number == LERNAZHUP_LOST ? "lost" : "?", 0);
     if (symbol->number != LERNAZHUP_NOCHIP) {
-        put_under(out, symbol->number == LERNAZHUP_LOST ? "value struck" : "value", middle, row->top + VALUE_TEXT, "%x", symbol->word);
         put_under(out, "nearest", middle, row->top + NEAREST_TEXT, "%u", symbol->nearest);
         put_under(out, "next", middle, row->top + NEXT_TEXT, "%u", symbol->next);
     }
     fputs("</g>\n", out);
 }
 
-/* What is known of an octet: its part, and of one that was read its value, too, in ASCII where that
- * shows something. */
+/* What is known of an octet: its part, and of one that was read its value, too; in ASCII, where that
+ * shows something, only of a report. */
 static void put_part(FILE *out, const struct view *view, enum part part, size_t octet_of_part, int read)
 {
     static const char *const names[] = {"preamble", "start", "length", ""};
@@ -132,28 +138,29 @@ static void put_part(FILE *out, const struct view *view, enum part part, size_t 
         fprintf(out, " %u", (unsigned)view->receiver.length);
     if (part == REPORT && read) {
         uint8_t octet = view->receiver.octets[octet_of_part];
-        char shown[2] = {(char)octet, 0};
+        char shown[] = {'\'', (char)octet, '\'', 0};
         fprintf(out, "%02x", octet);
-        if (octet > 0x20 && octet < 0x7f) {
+        if (!refused(view) && octet >= 0x20 && octet < 0x7f) {
             putc(' ', out);
-            show_xml(out, shown, 1);
+            show_xml(out, shown, 3);
         }
     }
 }
 
-/* A bracket over symbols, and what they are. */
+/* A bracket over symbols, and what they are; open at its end where symbols are wanting. What a
+ * refused frame has in it is no report, and doesn't look like one. */
 static void draw_part(FILE *out, const struct view *view, const struct row *row, size_t at, size_t behind)
 {
     int left = cell_left(view, row, at) + 2, right = cell_left(view, row, behind) - 2;
-    size_t octet = at / symbols_of_an_octet(view->outcome->mode), octet_of_part;
-    enum part part = part_of(octet, &octet_of_part);
-    int read = behind <= view->symbols.read;
-    fprintf(out, "<g class=\"part%s\"><path d=\"M%d %dv-3h%dv3\"/>", at > view->symbols.read ? " faint" : "", left, row->top + PART_LINE + 3,
-            right - left);
+    size_t per = symbols_of_an_octet(view->outcome->mode), octet_of_part;
+    enum part part = part_of(at / per, &octet_of_part);
+    const char *kind = part != REPORT ? "name" : refused(view) ? "octet refused" : "octet";
+    fprintf(out, "<g class=\"part%s\"><path d=\"M%d %dv-3h%d%s\"/>", at >= view->symbols.read ? " faint" : "", left, row->top + PART_LINE + 3,
+            right - left, behind % per == 0 ? "v3" : "");
     if (part == REPORT)
-        fprintf(out, "<text class=\"number\" x=\"%d\" y=\"%d\">%zu</text>", left, row->top + PART_TEXT, octet_of_part);
-    fprintf(out, "<text class=\"%s\" x=\"%d\" y=\"%d\">", part == REPORT ? "octet" : "name", (left + right) / 2, row->top + PART_TEXT);
-    put_part(out, view, part, octet_of_part, read);
+        fprintf(out, "<text class=\"number\" x=\"%d\" y=\"%d\">#%zu</text>", left, row->top + PART_TEXT, octet_of_part);
+    fprintf(out, "<text class=\"%s\" x=\"%d\" y=\"%d\">", kind, (left + right) / 2, row->top + PART_TEXT);
+    put_part(out, view, part, octet_of_part, behind <= view->symbols.read);
     fputs("</text></g>\n", out);
 }
 
@@ -181,10 +188,11 @@ static void begin_note(FILE *out, const struct view *view, const struct row *row
 static void note_worst(FILE *out, const struct view *view)
 {
     const struct symbols *symbols = &view->symbols;
-    fprintf(out, "smallest gap: %u here", (unsigned)gap_of(&symbols->of[symbols->worst]));
+    uint32_t gap = gap_of(&symbols->of[symbols->worst]);
+    fprintf(out, "smallest gap%s: %u here", refused(view) ? " of those read" : "", (unsigned)gap);
     if (symbols->as_bad > 1)
         fprintf(out, ", and in %zu more symbol%s", symbols->as_bad - 1, symbols->as_bad == 2 ? "" : "s");
-    fputs("</text></g>\n", out);
+    fputs(gap == best_gap(view->outcome->mode) ? ", the best there is</text></g>\n" : "</text></g>\n", out);
 }
 
 static void note_end(FILE *out, const struct view *view)
@@ -200,17 +208,27 @@ static void note_end(FILE *out, const struct view *view)
     fputs("</text></g>\n", out);
 }
 
+/* Over what is drawn there. */
+static void draw_frame(FILE *out, const struct view *view, const struct row *row, size_t at, const char *kind)
+{
+    fprintf(out, "<rect class=\"%s\" ", kind);
+    put_rect(out, view, cell_left(view, row, at), row->top + CELL_TOP, 2);
+}
+
 /* There is a line for notes in each row; gives the height of what goes below it. */
 static int draw_notes(FILE *out, const struct view *view, const struct row *row)
 {
     size_t worst = view->symbols.worst, ended = reading_ended_at(view);
     int lines = 0;
     if (view->symbols.read > 0 && worst >= row->first && worst < row->behind) {
+        draw_frame(out, view, row, worst, "worst");
         begin_note(out, view, row, worst, row->top + NOTES_TOP);
         note_worst(out, view);
         lines++;
     }
     if (ended >= row->first && ended < row->behind) {
+        if (refused(view))
+            draw_frame(out, view, row, ended, "ended");
         begin_note(out, view, row, ended, row->top + NOTES_TOP + NOTE_HEIGHT * lines);
         note_end(out, view);
         lines++;
@@ -218,17 +236,27 @@ static int draw_notes(FILE *out, const struct view *view, const struct row *row)
     return lines > 1 ? NOTE_HEIGHT : 0;
 }
 
-/* What the lines of a row are, and the number of its first symbol. */
-static void draw_margin(FILE *out, const struct row *row)
+/* What the lines of a row are, and the number of its first symbol; in each row of a refused frame,
+ * that it is one. */
+static void draw_margin(FILE *out, const struct view *view, const struct row *row)
 {
     static const struct {
         int line;
         const char *name;
-    } lines[] = {{VALUE_TEXT, "value"}, {NEAREST_TEXT, "nearest"}, {NEXT_TEXT, "next"}};
+    } lines[] = {{VALUE_TEXT, "value"}, {NEAREST_TEXT, "nearest"}, {NEXT_TEXT, "next"}, {PART_TEXT, "no report"}};
     size_t k;
     fprintf(out, "<g class=\"margin\"><text x=\"%d\" y=\"%d\">%zu</text>", LEFT - 8, row->top + CELL_TOP + 14, row->first);
-    for (k = 0; k < sizeof lines / sizeof *lines; k++)
+    for (k = 0; k < (refused(view) ? 4 : 3); k++)
         fprintf(out, "<text x=\"%d\" y=\"%d\">%s</text>", LEFT - 8, row->top + lines[k].line, lines[k].name);
+    fputs("</g>\n", out);
+}
+
+/* In the place of the symbol that chips ran out in. */
+static void draw_missing(FILE *out, const struct view *view, const struct row *row, size_t at)
+{
+    size_t size = LERNAZHUP_SYMBOL_CHIPS(view->outcome->mode);
+    fprintf(out, "<g><title>symbol %zu: %zu of its %zu bytes came</title><rect class=\"missing\" ", at, view->capture->have % size, size);
+    put_rect(out, view, cell_left(view, row, at), row->top + CELL_TOP, 0);
     fputs("</g>\n", out);
 }
 
@@ -236,14 +264,12 @@ static void draw_margin(FILE *out, const struct row *row)
 static int draw_row(FILE *out, const struct view *view, const struct row *row)
 {
     size_t at;
-    draw_margin(out, row);
+    draw_margin(out, view, row);
     draw_parts(out, view, row);
     for (at = row->first; at < row->behind && at < view->symbols.count; at++)
         draw_symbol(out, view, row, at);
-    if (at < row->behind) {
-        fputs("<rect class=\"missing\" ", out);
-        put_rect(out, view, cell_left(view, row, at), row->top + CELL_TOP, 0);
-    }
+    if (at < row->behind)
+        draw_missing(out, view, row, at);
     return ROW_HEIGHT + draw_notes(out, view, row);
 }
 
@@ -255,6 +281,8 @@ void draw_picture(FILE *out, const struct view *view)
     fputs("<?xml version=\"1.0\" encoding=\"UTF-8\"?>\n", out);
     fprintf(out, "<svg xmlns=\"http://www.w3.org/2000/svg\" width=\"%d\" height=\"%d\" viewBox=\"0 0 %d %d\">\n", WIDTH, height, WIDTH, height);
     draw_caption(out, view, MARGIN);
+    if (refused(view)) /* along the whole of it, so that every page of paper shows it */
+        fprintf(out, "<rect class=\"bar\" width=\"6\" height=\"%d\"/>\n", height);
     for (; row.first < count; row.first = row.behind) {
         row.behind = row.first + length < count ? row.first + length : count;
         row.top += draw_row(out, view, &row);

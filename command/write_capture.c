@@ -1,11 +1,10 @@
 /* `lernazhup write`: a report's frame as a raw capture. */
-#define _POSIX_C_SOURCE 200809L
 #include <stdio.h>
 #include <string.h>
-#include <unistd.h>
 
 #include "input.h"
 #include "lernazhup.h"
+#include "one_file.h"
 #include "output.h"
 #include "shown.h"
 #include "verbs.h"
@@ -48,20 +47,14 @@ enum status write_capture(const struct arguments *asked)
 {
     static struct input report;
     static struct frame frame;
-    const char *name = asked->count > 0 ? asked->names[0] : "-";
-    const char *told = told_name(name);
-    enum status status;
-    int failed;
-    if (asked->output == NULL && isatty(STDOUT_FILENO))
-        return useless(NULL, "chips are not for a terminal: -o CAPTURE puts them into a file");
-    if (is_the_input(asked->output, name))
-        return useless(asked->output, "is the report itself");
-    failed = open_input(&report, name);
-    if (failed != 0)
-        return useless(told, strerror(failed));
+    const char *name;
+    enum status status = open_only(&report, asked, "chips are not for a terminal: -o CAPTURE puts them into a file",
+                                   "is the report itself", &name);
+    if (status != GOOD)
+        return status;
     /* an octet more than a report may have, for the library to refuse it */
     input_has(&report, LERNAZHUP_REPORT_MAX + 1);
-    status = report.failed != 0 ? useless(told, strerror(report.failed)) : make_frame(&frame, &report, asked, told);
+    status = report.failed != 0 ? useless(name, strerror(report.failed)) : make_frame(&frame, &report, asked, name);
     if (status == GOOD)
         status = put_frame(asked, &frame, &report);
     close_input(&report);

@@ -7,6 +7,8 @@ import re
 import sys
 import xml.etree.ElementTree as ElementTree
 
+from colours import check_colours
+
 SVG = "{http://www.w3.org/2000/svg}"
 TAGS = {"svg", "title", "style", "rect", "text", "g", "path"}
 ATTRIBUTES = {"class", "x", "y", "width", "height", "d", "viewBox"}
@@ -38,7 +40,7 @@ def shown(raw):
         code = ord(character[0])
         text.append("." if code < 0x20 or 0x7F <= code < 0xA0 or code in TURNING or code in (0xFFFE, 0xFFFF) else character)
         at += length
-    return "".join(text) if len(text) <= 64 else "..." + "".join(text[-64:])
+    return "".join(text) if len(text) <= 48 else "..." + "".join(text[-48:])
 
 
 def drawn_mode(facts):
@@ -77,27 +79,6 @@ def check_harmless(root):
         check_colours(style.text)
 
 
-def luminance(colour):
-    """Of #rrggbb or #rgb, from 0 to 1, as WCAG has it, and 0.05 more."""
-    digits = colour[1:] if len(colour) == 7 else "".join(2 * digit for digit in colour[1:])
-    parts = [int(digits[at : at + 2], 16) / 255 for at in (0, 2, 4)]
-    red, green, blue = (part / 12.92 if part <= 0.04045 else ((part + 0.055) / 1.055) ** 2.4 for part in parts)
-    return 0.2126 * red + 0.7152 * green + 0.0722 * blue + 0.05
-
-
-def check_colours(style):
-    """On a light page and on a dark one: shades that are apart in grey, too, and text to be read."""
-    light, dark = style.split("@media screen and (prefers-color-scheme:dark){")
-    for rules, rising in ((light, -1), (dark, 1)):
-        fills = {name: luminance(fill) for name, fill in re.findall(r"[.}\n ]([\w ]+)\{[^}]*?fill:(#\w+)", rules)}
-        shades = [fills[f"d{k}"] for k in range(7)]
-        for one, other in zip(shades, shades[1:]):
-            assert (other / one) ** rising > 1.25, ("shades too close", shades)
-        for kind, least in (("text", 10), ("number", 5)):
-            assert max(fills[kind] / fills["page"], fills["page"] / fills[kind]) > least, (kind, fills)
-        assert min(fills["lost"] / fills["page"], fills["page"] / fills["lost"]) < 0.55, fills
-
-
 def colour(mode, symbol):
     number, _, nearest, _ = symbol
     if number == DONE:
@@ -108,22 +89,24 @@ def colour(mode, symbol):
 def check_symbol(group, at, mode, fact, first):
     symbol = fact["symbols"][at]
     number, word, nearest, following = symbol
-    cells = classed(group, "cell")
-    equal("cells of a symbol", [cell.get("class") for cell in cells], ["cell " + colour(mode, symbol)])
+    equal("cells of a symbol", [cell.get("class") for cell in classed(group, "cell")], ["cell " + colour(mode, symbol)])
     equal("crosses", len(classed(group, "cross")), int(number == LOST))
     equal("faint", "faint" in group.get("class"), at > fact["place"])
     size = SIZES[mode]
     title = f"symbol {at}, bytes {at * size} to {at * size + size - 1}: "
-    wrong = [k for k in range(at * size, at * size + size) if first[k] > 1]
+    under = {"value": [f"{word:x}"], "nearest": [str(nearest)], "next": [str(following)]}
     if number == NOCHIP:
-        title += f"byte {wrong[0]} is {first[wrong[0]]}, which is no chip"
-        equal("numbers of what has none", [texts(group, kind) for kind in ("value", "nearest", "next")], [[], [], []])
+        byte = next(byte for byte in range(at * size, at * size + size) if first[byte] > 1)
+        title += f"byte {byte} is {first[byte]}, which is no chip"
+        under = {"value": [], "nearest": [], "next": []}
     else:
-        title += f"value {word:x}, nearest {nearest}, next {following}, gap {following - nearest}" + (", lost" if number == LOST else "")
-        equal("value", texts(group, "value"), [f"{word:x}"])
-        equal("a value that is struck out", len(texts(group, "struck")), int(number == LOST))
-        equal("nearest", texts(group, "nearest"), [str(nearest)])
-        equal("next", texts(group, "next"), [str(following)])
+        title += f"lost, nearest to {word:x}: " if number == LOST else f"value {word:x}, "
+        title += f"nearest {nearest}, next {following}, gap {following - nearest}"
+    if number == LOST:
+        under["value"] = []
+    for kind, want in under.items():
+        equal(kind, texts(group, kind), want)
+    equal("in place of a value", [text for text in texts(group, "none") if text], {LOST: ["lost"], NOCHIP: ["?"]}.get(number, []))
     equal("title", group.find(SVG + "title").text, title + ("; not read" if at > fact["place"] else ""))
 
 
@@ -136,7 +119,7 @@ def check_rows(root, groups, mode):
         (cell,) = classed(group, "cell")
         left, top, width, height = (int(cell.get(side)) for side in ("x", "y", "width", "height"))
         column = at % ROWS[mode]
-        equal("a cell's place", left, 73 + column * 1024 // ROWS[mode])
+        equal("a cell's place", left, 79 + column * 1024 // ROWS[mode])
         equal("a cell's width", width, 1024 // ROWS[mode] - 2)
         if column == 0:
             assert not tops or top >= tops[-1] + height + 40, "rows too close"
@@ -147,78 +130,102 @@ def check_rows(root, groups, mode):
             assert 0 <= int(element.get("x")) <= wide and 0 <= int(element.get("y")) <= high, element.attrib
 
 
-def middle(group):
-    (cell,) = classed(group, "cell")
-    return int(cell.get("x")) + int(cell.get("width")) // 2
+def middle(element):
+    return int(element.get("x")) + int(element.get("width")) // 2
 
 
-def check_worst(root, groups, fact, notes):
+def framed(root, kind, groups):
+    """The symbols with a frame of that kind, a little larger than the cell."""
+    places = {(int(frame.get("x")) + 2, int(frame.get("y")) + 2) for frame in classed(root, kind)}
+    cells = [classed(group, "cell")[0] for group in groups] + classed(root, "missing")
+    return [at for at, cell in enumerate(cells) if (int(cell.get("x")), int(cell.get("y"))) in places]
+
+
+def check_worst(root, groups, fact, mode, notes):
     """The first symbol of those read with the smallest gap, and how many more there are."""
     gaps = [following - nearest for _, _, nearest, following in fact["symbols"][: fact["place"]]]
-    marked = [at for at, group in enumerate(groups) if classed(group, "worst")]
+    marked = framed(root, "worst", groups)
     equal("symbols pointed out", marked, [gaps.index(min(gaps))] if gaps else [])
+    equal("their frames", len(classed(root, "worst")), len(marked))
     if gaps:
         others = gaps.count(min(gaps)) - 1
-        more = f", and in {others} more symbol{'s' if others > 1 else ''}" if others else ""
-        equal("note", notes.pop(0), (f"smallest gap: {min(gaps)} here{more}", middle(groups[marked[0]])))
+        words = f"smallest gap{'' if fact['number'] == DONE else ' of those read'}: {min(gaps)} here"
+        words += f", and in {others} more symbol{'s' if others > 1 else ''}" if others else ""
+        words += ", the best there is" if min(gaps) == BEST[mode] else ""
+        equal("note", notes.pop(0), (words, middle(classed(groups[marked[0]], "cell")[0])))
         assert fact["number"] != DONE or min(gaps) == fact["gap"]
 
 
 def check_end(root, groups, mode, fact, notes, have):
     number, place = fact["number"], fact["place"]
     words = "the frame ends here" if number == DONE else f"the reading ended here: {number}, {fact['meaning']}"
+    came = f"{have % SIZES[mode]} of {SIZES[mode]} came"
+    cells = [classed(group, "cell")[0] for group in groups]
     if number == RUNOUT:
-        words += f": {have % SIZES[mode]} of {SIZES[mode]} came"
-    (note,) = notes
-    equal("the end", note[0], words)
-    equal("what is missing", len(classed(root, "missing")), int(number == RUNOUT))
-    ended = [at for at, group in enumerate(groups) if classed(group, "ended")]
-    equal("the refused symbol", ended, [place] if number not in (DONE, RUNOUT) else [])
-    if number == RUNOUT:
-        (missing,) = classed(root, "missing")
-        equal("its place", note[1], int(missing.get("x")) + int(missing.get("width")) // 2)
-    else:
-        equal("its place", note[1], middle(groups[place if number else place - 1]))
+        words += ": " + came
+        cells += classed(root, "missing")
+        equal("what is missing", [title.text for title in root.iter(SVG + "title")][-1], f"symbol {place}: {came}".replace("of", "of its").replace("came", "bytes came"))
+    equal("how much is missing", len(classed(root, "missing")), int(number == RUNOUT))
+    equal("the refused symbol", framed(root, "ended", groups), [place] if number != DONE else [])
+    equal("the end", notes, [(words, middle(cells[place if number else place - 1]))])
+    equal("a refusal's bar", [bar.get("height") for bar in classed(root, "bar")], [root.get("height")] if number != DONE else [])
+    rows = -(-(len(cells)) // ROWS[mode])
+    margins = [[text.text for text in margin] for margin in classed(root, "margin")]
+    equal("margins", margins, [[str(row * ROWS[mode]), "value", "nearest", "next"] + (["no report"] if number != DONE else []) for row in range(rows)])
 
 
 def check_parts(root, mode, fact, count):
     """Preamble, start, length, and every octet of the report, with its value where it was read."""
-    per, place = PER_OCTET[mode], fact["place"]
+    per, place, done = PER_OCTET[mode], fact["place"], fact["number"] == DONE
     octets = bytes.fromhex(fact["octets"])
     places = count + (fact["number"] == RUNOUT)
-    names, values, numbers = [], [], []
+    names, values, numbers, faint = ["preamble"], [], [], [place == 0]
     for octet in range(4, -(-places // per)):
         whole = (octet + 1) * per <= place
+        faint.append(octet * per >= place)
         if octet == 4:
             names.append("start")
         elif octet == 5:
             names.append(f"length {fact['length']}" if whole else "length")
         else:
             value = octets[octet - 6]
-            numbers.append(str(octet - 6))
-            values.append((f"{value:02x}" + (f" {chr(value)}" if 0x20 < value < 0x7F else "")) if whole else "")
-    equal("parts", texts(root, "name"), ["preamble"] + names)
+            numbers.append(f"#{octet - 6}")
+            values.append((f"{value:02x}" + (f" '{chr(value)}'" if done and 0x20 <= value < 0x7F else "")) if whole else "")
+    equal("parts", texts(root, "name"), names)
     equal("octets", texts(root, "octet"), values)
+    equal("octets of a refusal", len(texts(root, "refused")), 0 if done else len(values))
     equal("their numbers", texts(root, "number"), numbers)
-    if fact["number"] == DONE:
+    parts = classed(root, "part")
+    equal("faint parts", ["faint" in part.get("class") for part in parts], faint)
+    ends = [part.find(SVG + "path").get("d").endswith("v3") for part in parts]
+    equal("whole parts", ends, [True] * (len(ends) - 1) + [places % per == 0])
+    if done:
         equal("the report's octets", len(values), fact["n"])
 
 
 def check_words(root, facts, mode, fact):
     lines = texts(root, "words")
-    name = shown(bytes.fromhex(facts["name"]))
+    name, place = shown(bytes.fromhex(facts["name"])), fact["place"]
     equal("name", lines[0], name)
-    assert lines[1].startswith("a report of " if fact["number"] == DONE else "no report in "), lines[1]
     equal("title", root.find(SVG + "title").text, f"{name}: {lines[1]}")
+    equal("swatches", len(classed(root, "swatch")), ACCEPTED[mode] + 3)
+    gaps = [following - nearest for _, _, nearest, following in fact["symbols"][:place]]
     if fact["number"] == DONE:
         equal("report", lines[1].split(", every")[0], f"a report of {fact['n']} octet{'' if fact['n'] == 1 else 's'} in mode {mode}, {RADIOS[mode]}")
+        equal("zeros", "every octet of it 0" in lines[1], fact["n"] > 0 and not any(bytes.fromhex(fact["octets"])[: fact["n"]]))
         chips = (6 + fact["n"]) * PER_OCTET[mode] * SIZES[mode]
         assert lines[2].startswith(f"{fact['count']} of {chips} chips repaired, smallest gap {fact['gap']} of {BEST[mode]}, "), lines[2]
         assert lines[3].startswith(f"polarity {fact['polarity']}, "), lines[3]
+        limit = sum(nearest == ACCEPTED[mode] for _, _, nearest, _ in fact["symbols"][:place])
+        far = f"; {limit} symbol{'' if limit == 1 else 's'} as far off as is accepted" if limit else ""
+        assert lines[3].endswith(far) and ("as far off" in lines[3]) == (limit > 0), (lines[3], limit)
     else:
-        assert f"mode {mode}, {RADIOS[mode]}: {fact['number']}, {fact['meaning']}, at symbol {fact['place']}, byte " in lines[1], lines[1]
-        assert lines[2].startswith(f"{fact['place']} symbol"), lines[2]
-    equal("swatches", len(classed(root, "swatch")), ACCEPTED[mode] + 3)
+        assert lines[1].startswith(f"no report in mode {mode}, {RADIOS[mode]}: {fact['number']}, {fact['meaning']}, at symbol {place}, byte "), lines[1]
+        sized = fact["taken"] >= 6 * PER_OCTET[mode]
+        words = "" if facts["asked"] >= 0 else "no mode reads it, and none got farther; "
+        words += f"{place} of {(6 + fact['length']) * PER_OCTET[mode]} symbols read" if sized else f"{place} symbol{'' if place == 1 else 's'} read"
+        equal("how much was read", lines[2], words + (f", the smallest gap among them {min(gaps)}" if gaps else ""))
+        equal("what is faint", any(line.startswith("what is faint") for line in lines), bool(classed(root, "symbol")[place + 1 :]))
 
 
 def check(facts, picture):
@@ -234,7 +241,7 @@ def check(facts, picture):
         check_symbol(group, at, mode, fact, first)
     check_rows(root, groups, mode)
     notes = [(note.find(SVG + "text").text, int(re.match(r"M(\d+) ", note.find(SVG + "path").get("d"))[1])) for note in classed(root, "note")]
-    check_worst(root, groups, fact, notes)
+    check_worst(root, groups, fact, mode, notes)
     check_end(root, groups, mode, fact, notes, len(first))
     check_parts(root, mode, fact, len(groups))
     check_words(root, facts, mode, fact)
