@@ -1,6 +1,7 @@
-/* The colours of distances go from a light yellow by green to a dark blue, after ColorBrewer's YlGnBu:
- * neighbours are apart to every eye, in grey as well, and mean the same on a light page and on a dark
- * one. What is lost is crossed out, too, so that it needs no colour. Paper is always light. */
+/* The colours of distances go from a light yellow by green to a dark blue, after ColorBrewer's
+ * YlGnBu: neighbours are apart to every eye, in grey as well, and mean the same on a light page and
+ * on a dark one. What is lost is crossed out, too, so that it needs no colour. Paper is always
+ * light. */
 #include "caption.h"
 
 #include "modes.h"
@@ -13,7 +14,7 @@ static const char style[] =
     "<style>\n"
     "text{font:12px \"DejaVu Sans Mono\",Menlo,Consolas,monospace;fill:#1b1f24}\n"
     ".words{font-family:\"DejaVu Sans\",Verdana,sans-serif;font-size:13px}\n"
-    ".title,.outcome{font-weight:bold}.title{font-size:17px}.outcome{font-size:14px}\n"
+    ".title,.outcome{font-weight:bold}.title{font-size:17px;white-space:pre}.outcome{font-size:14px}\n"
     ".page{fill:#fff}\n"
     ".cell,.swatch{stroke:#6b7280}\n"
     ".d0{fill:#ffffe8}.d1{fill:#c9eba8}.d2{fill:#94cfad}.d3{fill:#47b4ab}.d4{fill:#1d8abc}.d5{fill:#225ea8}.d6{fill:#0c2c84}\n"
@@ -41,17 +42,6 @@ void put_colour(FILE *out, uint32_t mode, const lernazhup_matched *symbol)
         fprintf(out, "d%u", (unsigned)((symbol->nearest * (SHADES - 1) + limit / 2) / limit));
     else
         fputs(symbol->number == LERNAZHUP_LOST ? "lost" : "none", out);
-}
-
-static void put_outcome(FILE *out, const struct view *view)
-{
-    if (view->outcome->reading.number == LERNAZHUP_DONE) {
-        put_report(out, view->outcome);
-        fputs(view->outcome->zeros ? ", every octet of it 0: is the rope plugged in?" : "", out);
-    } else {
-        fputs("no report in ", out);
-        put_refusal(out, view->outcome, view->capture);
-    }
 }
 
 static void begin_line(FILE *out, const char *kind, int left, int line)
@@ -93,9 +83,9 @@ static void draw_refusal(FILE *out, const struct view *view, int left)
     begin_line(out, "words", left, 76);
     fputs(view->outcomes.mode == NO_MODE ? "no mode reads it, and none got farther; " : "", out);
     fprintf(out, "%zu ", symbols->read);
-    if (view->outcome->sized)
-        fprintf(out, "of %zu ", view->outcome->chips / LERNAZHUP_SYMBOL_CHIPS(view->outcome->mode));
-    fputs(symbols->read == 1 && !view->outcome->sized ? "symbol read" : "symbols read", out);
+    if (symbols->frame > 0)
+        fprintf(out, "of %zu ", symbols->frame);
+    fputs(symbols->read == 1 && symbols->frame == 0 ? "symbol read" : "symbols read", out);
     if (symbols->read > 0)
         fprintf(out, ", the smallest gap among them %u", (unsigned)gap_of(&symbols->of[symbols->worst]));
     fputs("</text>\n", out);
@@ -158,18 +148,18 @@ void draw_caption(FILE *out, const struct view *view, int left)
     fputs("<title>", out);
     show_xml(out, view->name, NAME_SHOWN);
     fputs(": ", out);
-    put_outcome(out, view);
+    put_outcome(out, view->outcome, view->capture);
     fputs("</title>\n", out);
     fputs(style, out);
     begin_line(out, "words title", left, 30);
     show_xml(out, view->name, NAME_SHOWN);
     fputs("</text>\n", out);
     begin_line(out, "words outcome", left, 54);
-    put_outcome(out, view);
+    put_outcome(out, view->outcome, view->capture);
     fputs("</text>\n", out);
-    if (view->outcome->reading.number == LERNAZHUP_DONE)
-        draw_report(out, view, left);
-    else
+    if (refused(view))
         draw_refusal(out, view, left);
+    else
+        draw_report(out, view, left);
     draw_legend(out, view->outcome->mode, left);
 }

@@ -122,8 +122,8 @@ static int packed(struct hints *hints, const struct input *capture)
     return find_frame(hints, PACKED_HIGH, &chips, 0, NO_MODE, 0);
 }
 
-/* The first of the modes that ended with a number, at a symbol from `least` on; a null pointer where
- * none did. */
+/* The first of the modes that ended with a number, at a symbol from `least` on; a null pointer
+ * where none did. */
 static const struct outcome *ended_with(const struct outcomes *refused, uint32_t number, uint32_t least)
 {
     size_t k;

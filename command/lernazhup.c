@@ -1,5 +1,5 @@
-/* The command `lernazhup`: what came in, in words, pictures and packets, and captures of reports. It
- * has no radio of its own: each reading that it shows, and each chip that it writes, is the
+/* The command `lernazhup`: what came in, in words, pictures and packets, and captures of reports.
+ * It has no radio of its own: each reading that it shows, and each chip that it writes, is the
  * library's. */
 #define _POSIX_C_SOURCE 200809L
 #include <signal.h>

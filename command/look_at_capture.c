@@ -1,8 +1,5 @@
 /* `lernazhup look`: a capture as a picture. */
-#define _POSIX_C_SOURCE 200809L
-#include <errno.h>
 #include <stdio.h>
-#include <stdlib.h>
 #include <string.h>
 
 #include "input.h"
@@ -18,35 +15,22 @@ static enum status tell(const struct arguments *asked, const struct view *view)
 {
     show_name(stdout, asked->output);
     printf(": %zu symbol%s, ", view->symbols.count, view->symbols.count == 1 ? "" : "s");
-    if (view->outcome->reading.number == LERNAZHUP_DONE) {
-        put_report(stdout, view->outcome);
-    } else {
-        fputs("no report in ", stdout);
-        put_refusal(stdout, view->outcome, view->capture);
-    }
+    put_outcome(stdout, view->outcome, view->capture);
     putc('\n', stdout);
     return written_out() ? GOOD : USELESS;
 }
 
-/* The picture is made in memory, and put somewhere when it is whole. */
 static enum status put_picture(const struct arguments *asked, const struct view *view)
 {
-    char *picture = NULL;
-    size_t length = 0;
-    FILE *out = open_memstream(&picture, &length);
-    enum status status;
-    if (out == NULL)
-        return useless(NULL, strerror(errno));
-    draw_picture(out, view);
-    if (fclose(out) != 0) {
-        free(picture);
-        return useless(NULL, strerror(ENOMEM));
-    }
-    status = put_output(asked->output, picture, length);
-    free(picture);
+    struct draft draft;
+    enum status status = begin_draft(&draft);
+    if (status != GOOD)
+        return status;
+    draw_picture(draft.out, view);
+    status = put_draft(asked->output, &draft);
     if (status == GOOD && is_a_file(asked->output))
         status = tell(asked, view);
-    return status != GOOD || view->outcome->reading.number == LERNAZHUP_DONE ? status : REFUSED;
+    return status == GOOD && refused(view) ? REFUSED : status;
 }
 
 enum status look_at_capture(const struct arguments *asked)

@@ -55,3 +55,20 @@ void put_refusal(FILE *out, const struct outcome *refused, const struct input *c
             (unsigned)refused->reading.number, lernazhup_meaning(refused->reading.number), (unsigned)refused->reading.place, place.byte);
     put_place(out, place);
 }
+
+void put_outcome(FILE *out, const struct outcome *outcome, const struct input *capture)
+{
+    if (outcome->reading.number == LERNAZHUP_DONE) {
+        put_report(out, outcome);
+        fputs(outcome->zeros ? ", every octet of it 0: is the rope plugged in?" : "", out);
+    } else {
+        fputs("no report in ", out);
+        put_refusal(out, outcome, capture);
+    }
+}
+
+const char *part_name(enum part part)
+{
+    static const char *const names[] = {"preamble", "start", "length", "report", "end"};
+    return names[part];
+}

@@ -103,6 +103,13 @@ enum part part_of(size_t octet, size_t *octet_of_part)
     return part;
 }
 
+size_t no_chip(const struct input *capture, size_t from)
+{
+    while (capture->bytes[from] <= 1)
+        from++;
+    return from;
+}
+
 struct place place_of(const struct outcome *refused, const struct input *capture)
 {
     struct place place = {END, refused->reading.place / symbols_of_an_octet(refused->mode), 0, refused_at(refused)};
@@ -110,8 +117,7 @@ struct place place_of(const struct outcome *refused, const struct input *capture
         return place;
     place.part = part_of(place.octet, &place.octet_of_part);
     if (refused->reading.number == LERNAZHUP_NOCHIP)
-        while (capture->bytes[place.byte] <= 1)
-            place.byte++;
+        place.byte = no_chip(capture, place.byte);
     return place;
 }
 

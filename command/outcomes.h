@@ -32,8 +32,8 @@ struct outcomes {
  * chips. */
 void try_modes(struct outcomes *outcomes, struct input *capture, uint32_t mode, int checked);
 
-/* The one that gave a report, the first where several did; else the one that got farthest, in chips,
- * the first where several got as far. */
+/* The one that gave a report, the first where several did; else the one that got farthest, in
+ * chips, the first where several got as far. */
 const struct outcome *foremost(const struct outcomes *outcomes);
 
 /* Has the capture read as far as the mode wants it for a frame that begins at a chip, and gives
@@ -59,6 +59,9 @@ struct place {
 };
 
 struct place place_of(const struct outcome *refused, const struct input *capture);
+
+/* The first byte that is no chip, of those from one on, among which there is such a one. */
+size_t no_chip(const struct input *capture, size_t from);
 
 /* The first chip of the symbol that a refusal stands at. */
 size_t refused_at(const struct outcome *refused);

@@ -2,7 +2,8 @@
 #define _POSIX_C_SOURCE 200809L
 #include "output.h"
 
-#include <stdio.h>
+#include <errno.h>
+#include <stdlib.h>
 #include <string.h>
 #include <sys/stat.h>
 #include <unistd.h>
@@ -34,4 +35,25 @@ enum status put_output(const char *output, const void *bytes, size_t length)
     }
     fwrite(bytes, 1, length, stdout);
     return written_out() ? GOOD : USELESS;
+}
+
+enum status begin_draft(struct draft *draft)
+{
+    draft->bytes = NULL;
+    draft->length = 0;
+    draft->out = open_memstream(&draft->bytes, &draft->length);
+    return draft->out != NULL ? GOOD : useless(NULL, strerror(errno));
+}
+
+enum status put_draft(const char *output, struct draft *draft)
+{
+    enum status status = fclose(draft->out) == 0 ? put_output(output, draft->bytes, draft->length) : useless(NULL, strerror(ENOMEM));
+    free(draft->bytes);
+    return status;
+}
+
+void drop_draft(struct draft *draft)
+{
+    fclose(draft->out);
+    free(draft->bytes);
 }

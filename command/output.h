@@ -4,6 +4,7 @@
 #define OUTPUT_H
 
 #include <stddef.h>
+#include <stdio.h>
 
 #include "standard.h"
 
@@ -15,5 +16,16 @@ int is_the_input(const char *output, const char *input);
 
 /* Puts bytes there. A file that is there is replaced, whole or not at all. */
 enum status put_output(const char *output, const void *bytes, size_t length);
+
+/* The same for what is written to a stream first, in memory. */
+struct draft {
+    FILE *out;
+    char *bytes;
+    size_t length;
+};
+
+enum status begin_draft(struct draft *draft);
+enum status put_draft(const char *output, struct draft *draft);
+void drop_draft(struct draft *draft);
 
 #endif

@@ -1,11 +1,12 @@
 /* Rows of cells, each a symbol, with the parts of the frame above them and numbers below. All is
  * placed in whole pixels, and only as many rows are drawn as a frame can have: hence the bound on
- * the size. The caption is as high as two rows, and a printed page as fifteen, so that no row is cut
- * by the end of a page (but where two notes made one of the rows before it higher). */
+ * the size. The caption is as high as two rows, and a printed page as fifteen, so that no row is
+ * cut by the end of a page (but where two notes made one of the rows before it higher). */
 #include "picture.h"
 
 #include "caption.h"
 #include "modes.h"
+#include "outcome_words.h"
 #include "shown.h"
 
 enum {
@@ -42,11 +43,6 @@ static int cell_left(const struct view *view, const struct row *row, size_t at)
     return LEFT + cell_width(view) * (int)(at - row->first);
 }
 
-static int refused(const struct view *view)
-{
-    return view->outcome->reading.number != LERNAZHUP_DONE;
-}
-
 /* Places in rows: one for each symbol, and where chips ran out one for what is not there. */
 static size_t places(const struct view *view)
 {
@@ -59,14 +55,6 @@ static size_t reading_ended_at(const struct view *view)
     return refused(view) ? view->symbols.read : view->symbols.read - 1;
 }
 
-/* The first of a symbol's bytes that is no chip. */
-static size_t no_chip(const struct view *view, size_t from)
-{
-    while (view->capture->bytes[from] <= 1)
-        from++;
-    return from;
-}
-
 /* What is lost has no value, only a word that it is nearest to. */
 static void put_title(FILE *out, const struct view *view, size_t at)
 {
@@ -74,7 +62,7 @@ static void put_title(FILE *out, const struct view *view, size_t at)
     size_t size = LERNAZHUP_SYMBOL_CHIPS(view->outcome->mode), from = at * size, byte;
     fprintf(out, "<title>symbol %zu, bytes %zu to %zu: ", at, from, from + size - 1);
     if (symbol->number == LERNAZHUP_NOCHIP) {
-        byte = no_chip(view, from);
+        byte = no_chip(view->capture, from);
         fprintf(out, "byte %zu is %u, which is no chip", byte, view->capture->bytes[byte]);
     } else {
         fprintf(out, symbol->number == LERNAZHUP_LOST ? "lost, nearest to %x: " : "value %x, ", (unsigned)symbol->word);
@@ -83,7 +71,8 @@ static void put_title(FILE *out, const struct view *view, size_t at)
     fputs(at > view->symbols.read ? "; not read</title>" : "</title>", out);
 }
 
-/* A rectangle of the size of a cell, or larger by some pixels on every side; cells are two apart. */
+/* A rectangle of the size of a cell, or larger by some pixels on every side. Cells are two pixels
+ * apart. */
 static void put_rect(FILE *out, const struct view *view, int left, int top, int larger)
 {
     fprintf(out, "x=\"%d\" y=\"%d\" width=\"%d\" height=\"%d\"/>", left + 1 - larger, top - larger, cell_width(view) - 2 + 2 * larger,
@@ -128,12 +117,11 @@ static void draw_symbol(FILE *out, const struct view *view, const struct row *ro
     fputs("</g>\n", out);
 }
 
-/* What is known of an octet: its part, and of one that was read its value, too; in ASCII, where that
- * shows something, only of a report. */
+/* What is known of an octet: its part, and of one that was read its value, too; in ASCII, where
+ * that shows something, only of a report. */
 static void put_part(FILE *out, const struct view *view, enum part part, size_t octet_of_part, int read)
 {
-    static const char *const names[] = {"preamble", "start", "length", ""};
-    fputs(names[part], out);
+    fputs(part == REPORT ? "" : part_name(part), out);
     if (part == LENGTH && read)
         fprintf(out, " %u", (unsigned)view->receiver.length);
     if (part == REPORT && read) {
@@ -164,11 +152,14 @@ static void draw_part(FILE *out, const struct view *view, const struct row *row,
     fputs("</text></g>\n", out);
 }
 
-/* The preamble has one bracket a row, all else one an octet. */
+/* The preamble has one bracket a row, all else one an octet. How many octets stand behind the
+ * length only that tells. */
 static void draw_parts(FILE *out, const struct view *view, const struct row *row)
 {
     size_t per = symbols_of_an_octet(view->outcome->mode), at, next, ignored;
     for (at = row->first; at < row->behind; at = next) {
+        if (view->symbols.frame == 0 && part_of(at / per, &ignored) == REPORT)
+            break;
         next = at + per;
         while (part_of(at / per, &ignored) == PREAMBLE && part_of(next / per, &ignored) == PREAMBLE)
             next += per;

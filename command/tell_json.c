@@ -1,6 +1,7 @@
 /* What came of a capture, for programs: one object on one line, whatever its name has in it. */
 #include "lernazhup.h"
 #include "modes.h"
+#include "outcome_words.h"
 #include "shown.h"
 #include "tell.h"
 
@@ -58,11 +59,10 @@ static void tell_report(FILE *out, const struct outcome *done)
 
 static void tell_refusal(FILE *out, const struct account *account, const struct outcome *refused)
 {
-    static const char *const parts[] = {"preamble", "start", "length", "report", "end"};
     struct place place = place_of(refused, account->capture);
     tell_mode(out, refused);
     fprintf(out, "\"symbol\":%u,\"part\":\"%s\",\"octet\":%zu,\"octet_of_part\":%zu,\"byte\":%zu}", (unsigned)refused->reading.place,
-            parts[place.part], place.octet, place.octet_of_part, place.byte);
+            part_name(place.part), place.octet, place.octet_of_part, place.byte);
 }
 
 /* The numbers of a hint, which its words have, too. */

@@ -14,12 +14,9 @@ size_t row_of(uint32_t mode)
     return (mode == 0 ? 4 : 8) * symbols_of_an_octet(mode);
 }
 
-/* How many symbols are of interest, whether or not they are there. */
-static size_t wanted(const struct outcome *outcome)
+int refused(const struct view *view)
 {
-    if (outcome->sized)
-        return outcome->chips / LERNAZHUP_SYMBOL_CHIPS(outcome->mode);
-    return outcome->reading.place + row_of(outcome->mode);
+    return view->outcome->reading.number != LERNAZHUP_DONE;
 }
 
 static void find_worst(struct symbols *symbols)
@@ -40,7 +37,8 @@ static void match_symbols(struct symbols *symbols, struct input *capture, const 
 {
     size_t size = LERNAZHUP_SYMBOL_CHIPS(outcome->mode), k;
     symbols->read = outcome->reading.place;
-    symbols->count = wanted(outcome);
+    symbols->frame = outcome->sized ? outcome->chips / size : 0;
+    symbols->count = outcome->sized ? symbols->frame : symbols->read + row_of(outcome->mode);
     if (!input_has(capture, symbols->count * size))
         symbols->count = capture->have / size;
     for (k = 0; k < symbols->count; k++)

@@ -16,6 +16,7 @@
 struct symbols {
     size_t read;   /* how many the reading took: all of a frame, or those before the refused one */
     size_t count;  /* how many there are, the refused one and those behind it among them */
+    size_t frame;  /* how many the frame has; 0 where its length was not read */
     size_t worst;  /* of those read, the first with the smallest gap; 0 where none was read */
     size_t as_bad; /* how many of those read have that gap */
     lernazhup_matched of[SYMBOLS_MAX];
@@ -30,6 +31,9 @@ struct view {
     struct symbols symbols;
 };
 
+/* Whether it gave no report. */
+int refused(const struct view *view);
+
 /* By how many chips the next-nearest word is farther off than the nearest. */
 uint32_t gap_of(const lernazhup_matched *symbol);
 
@@ -38,8 +42,8 @@ size_t row_of(uint32_t mode);
 
 /* A capture in a mode; for NO_MODE in the one that reads, else in the one that got farthest. Of a
  * report's frame every symbol is seen. Of a refused one, as far as the frame goes where its length
- * was read, else as many as a row has, from the refused one on; only those that are there, and whole
- * ones. Reads on as far as these go. */
+ * was read, else as many as a row has, from the refused one on; only those that are there, and
+ * whole ones. Reads on as far as these go. */
 void see(struct view *view, struct input *capture, const char *name, uint32_t mode);
 
 #endif

@@ -1,9 +1,6 @@
 /* `lernazhup pcap`: reports as a capture file for Wireshark, in the classic format of libpcap, each
  * number with its low octet first, whatever machine this is. */
-#define _POSIX_C_SOURCE 200809L
-#include <errno.h>
 #include <stdio.h>
-#include <stdlib.h>
 #include <string.h>
 
 #include "input.h"
@@ -87,25 +84,37 @@ static enum status tell(const struct arguments *asked, size_t packets)
     return written_out() ? GOOD : USELESS;
 }
 
-/* All packets are made before any is put anywhere. */
-static enum status put_packets(const struct arguments *asked)
+/* A packet for each capture that gives one, and how many there are; gives how many captures could
+ * be read at all. */
+static size_t add_packets(FILE *out, const struct arguments *asked, size_t *packets, enum status *status)
 {
-    enum status status = GOOD, put;
-    char *packets = NULL;
-    size_t length = 0, count = 0, k;
-    FILE *out = open_memstream(&packets, &length);
-    if (out == NULL)
-        return useless(NULL, strerror(errno));
-    put_header(out, asked->checked);
+    size_t could_be_read = 0, k;
+    *packets = 0;
     for (k = 0; k < asked->count; k++) {
         enum status one = add_packet(out, asked, asked->names[k]);
-        status = one > status ? one : status;
-        count += one == GOOD;
+        *status = one > *status ? one : *status;
+        *packets += one == GOOD;
+        could_be_read += one != USELESS;
     }
-    put = fclose(out) == 0 ? put_output(asked->output, packets, length) : useless(NULL, strerror(ENOMEM));
-    free(packets);
+    return could_be_read;
+}
+
+/* Where no capture can be read, as where names are mistyped, an old file stays. */
+static enum status put_packets(const struct arguments *asked)
+{
+    struct draft draft;
+    enum status status = begin_draft(&draft), put;
+    size_t packets;
+    if (status != GOOD)
+        return status;
+    put_header(draft.out, asked->checked);
+    if (add_packets(draft.out, asked, &packets, &status) == 0) {
+        drop_draft(&draft);
+        return status;
+    }
+    put = put_draft(asked->output, &draft);
     if (put == GOOD && is_a_file(asked->output))
-        put = tell(asked, count);
+        put = tell(asked, packets);
     return put > status ? put : status;
 }
 

@@ -8,13 +8,21 @@ import sys
 import xml.etree.ElementTree as ElementTree
 
 from colours import check_colours
+from fcs import right_fcs
 
 SVG = "{http://www.w3.org/2000/svg}"
 TAGS = {"svg", "title", "style", "rect", "text", "g", "path"}
 ATTRIBUTES = {"class", "x", "y", "width", "height", "d", "viewBox"}
 SIZES, ACCEPTED, PER_OCTET, ROWS = [15, 32, 16], [6, 5, 2], [8, 2, 2], [32, 16, 16]  # by mode
 RADIOS = ["868/915 BPSK", "2450 O-QPSK", "868/915 O-QPSK"]
-BEST = [15, 12, 6]
+BEST, EDGE = [15, 12, 6], [3, 2, 2]  # gaps by mode
+PARTS = ["(of the preamble)"] * 4 + ["(the start octet)", "(the length octet)"]
+LEGEND = [
+    "nearest, next: in how many chips a symbol differs from the nearest code word and from the nearest of the others; their difference is the gap",
+    "value: in hex; an octet's low half comes first",
+    "a row begins with the number of its first symbol; # is the number of an octet of the report, which is in hex",
+]
+ENCODED = "value: the encoded bit; an octet's bits are the lowest first, 1 where a value differs from the one before"
 DONE, RUNOUT, NOCHIP, LOST = 0, 4, 5, 6
 TURNING = {0x200E, 0x200F, *range(0x2028, 0x202F), *range(0x2066, 0x206A)}
 LARGEST = 500_000
@@ -86,27 +94,43 @@ def colour(mode, symbol):
     return "lost" if number == LOST else "none"
 
 
+def square(element):
+    return [int(element.get(side)) for side in ("x", "y", "width", "height")]
+
+
+def middle(element):
+    return int(element.get("x")) + int(element.get("width")) // 2
+
+
+def check_under(group, cell, number, want):
+    """What stands under a cell: on which line, and each in the middle."""
+    for line, (kind, text) in enumerate(want):
+        (element,) = classed(group, kind)[-1:] or [None]
+        assert element is not None and element.tag == SVG + "text", kind
+        place = [int(element.get("x")), int(element.get("y")) - int(cell.get("y"))]
+        equal(kind, [element.text] + place, [text, middle(cell), (35, 48, 60)[line]])
+    equal("texts under a symbol", len(list(group.iter(SVG + "text"))), len(want))
+
+
 def check_symbol(group, at, mode, fact, first):
-    symbol = fact["symbols"][at]
-    number, word, nearest, following = symbol
-    equal("cells of a symbol", [cell.get("class") for cell in classed(group, "cell")], ["cell " + colour(mode, symbol)])
-    equal("crosses", len(classed(group, "cross")), int(number == LOST))
+    number, word, nearest, following = fact["symbols"][at]
+    (cell,) = classed(group, "cell")
+    equal("colour", cell.get("class"), "cell " + colour(mode, fact["symbols"][at]))
+    left, top, width, height = square(cell)
+    cross = [f"M{left} {top}l{width} {height}m0 {-height}l{-width} {height}"] if number == LOST else []
+    equal("crosses", [path.get("d") for path in classed(group, "cross")], cross)
     equal("faint", "faint" in group.get("class"), at > fact["place"])
     size = SIZES[mode]
     title = f"symbol {at}, bytes {at * size} to {at * size + size - 1}: "
-    under = {"value": [f"{word:x}"], "nearest": [str(nearest)], "next": [str(following)]}
     if number == NOCHIP:
         byte = next(byte for byte in range(at * size, at * size + size) if first[byte] > 1)
         title += f"byte {byte} is {first[byte]}, which is no chip"
-        under = {"value": [], "nearest": [], "next": []}
+        check_under(group, cell, number, [("none", "?")])
     else:
         title += f"lost, nearest to {word:x}: " if number == LOST else f"value {word:x}, "
         title += f"nearest {nearest}, next {following}, gap {following - nearest}"
-    if number == LOST:
-        under["value"] = []
-    for kind, want in under.items():
-        equal(kind, texts(group, kind), want)
-    equal("in place of a value", [text for text in texts(group, "none") if text], {LOST: ["lost"], NOCHIP: ["?"]}.get(number, []))
+        value = ("none", "lost") if number == LOST else ("value", f"{word:x}")
+        check_under(group, cell, number, [value, ("nearest", str(nearest)), ("next", str(following))])
     equal("title", group.find(SVG + "title").text, title + ("; not read" if at > fact["place"] else ""))
 
 
@@ -117,7 +141,7 @@ def check_rows(root, groups, mode):
     tops = []
     for at, group in enumerate(groups):
         (cell,) = classed(group, "cell")
-        left, top, width, height = (int(cell.get(side)) for side in ("x", "y", "width", "height"))
+        left, top, width, height = square(cell)
         column = at % ROWS[mode]
         equal("a cell's place", left, 79 + column * 1024 // ROWS[mode])
         equal("a cell's width", width, 1024 // ROWS[mode] - 2)
@@ -128,10 +152,6 @@ def check_rows(root, groups, mode):
     for element in root.iter():
         if element.get("x") is not None:
             assert 0 <= int(element.get("x")) <= wide and 0 <= int(element.get("y")) <= high, element.attrib
-
-
-def middle(element):
-    return int(element.get("x")) + int(element.get("width")) // 2
 
 
 def framed(root, kind, groups):
@@ -159,13 +179,17 @@ def check_worst(root, groups, fact, mode, notes):
 def check_end(root, groups, mode, fact, notes, have):
     number, place = fact["number"], fact["place"]
     words = "the frame ends here" if number == DONE else f"the reading ended here: {number}, {fact['meaning']}"
-    came = f"{have % SIZES[mode]} of {SIZES[mode]} came"
     cells = [classed(group, "cell")[0] for group in groups]
-    if number == RUNOUT:
-        words += ": " + came
-        cells += classed(root, "missing")
-        equal("what is missing", [title.text for title in root.iter(SVG + "title")][-1], f"symbol {place}: {came}".replace("of", "of its").replace("came", "bytes came"))
     equal("how much is missing", len(classed(root, "missing")), int(number == RUNOUT))
+    if number == RUNOUT:
+        words += f": {have % SIZES[mode]} of {SIZES[mode]} came"
+        cells += classed(root, "missing")
+        title = list(root.iter(SVG + "title"))[-1].text
+        equal("what is missing", title, f"symbol {place}: {have % SIZES[mode]} of its {SIZES[mode]} bytes came")
+        column, row = place % ROWS[mode], place // ROWS[mode]
+        wide = 1024 // ROWS[mode]
+        above = square(cells[row * ROWS[mode]])[1] if column else square(cells[-1])[1]
+        equal("where it is missing", square(cells[-1]), [79 + column * wide, above, wide - 2, 20])
     equal("the refused symbol", framed(root, "ended", groups), [place] if number != DONE else [])
     equal("the end", notes, [(words, middle(cells[place if number else place - 1]))])
     equal("a refusal's bar", [bar.get("height") for bar in classed(root, "bar")], [root.get("height")] if number != DONE else [])
@@ -175,14 +199,17 @@ def check_end(root, groups, mode, fact, notes, have):
 
 
 def check_parts(root, mode, fact, count):
-    """Preamble, start, length, and every octet of the report, with its value where it was read."""
+    """Preamble, start, length, and where that was read every octet of the report, with its value
+    where that was read, too; each with a bracket over its symbols."""
     per, place, done = PER_OCTET[mode], fact["place"], fact["number"] == DONE
     octets = bytes.fromhex(fact["octets"])
     places = count + (fact["number"] == RUNOUT)
-    names, values, numbers, faint = ["preamble"], [], [], [place == 0]
+    if fact["taken"] < 6 * per:
+        places = min(places, 6 * per)
+    names, values, numbers, spans = ["preamble"], [], [], [(0, min(places, 4 * per))]
     for octet in range(4, -(-places // per)):
         whole = (octet + 1) * per <= place
-        faint.append(octet * per >= place)
+        spans.append((octet * per, min(places, (octet + 1) * per)))
         if octet == 4:
             names.append("start")
         elif octet == 5:
@@ -195,37 +222,69 @@ def check_parts(root, mode, fact, count):
     equal("octets", texts(root, "octet"), values)
     equal("octets of a refusal", len(texts(root, "refused")), 0 if done else len(values))
     equal("their numbers", texts(root, "number"), numbers)
-    parts = classed(root, "part")
-    equal("faint parts", ["faint" in part.get("class") for part in parts], faint)
-    ends = [part.find(SVG + "path").get("d").endswith("v3") for part in parts]
-    equal("whole parts", ends, [True] * (len(ends) - 1) + [places % per == 0])
     if done:
         equal("the report's octets", len(values), fact["n"])
+    check_brackets(root, mode, place, spans)
 
 
-def check_words(root, facts, mode, fact):
-    lines = texts(root, "words")
-    name, place = shown(bytes.fromhex(facts["name"])), fact["place"]
-    equal("name", lines[0], name)
-    equal("title", root.find(SVG + "title").text, f"{name}: {lines[1]}")
-    equal("swatches", len(classed(root, "swatch")), ACCEPTED[mode] + 3)
+def check_brackets(root, mode, place, spans):
+    """Over which symbols each stands, faint where these were not read, open where some are wanting."""
+    wide, row, per = 1024 // ROWS[mode], ROWS[mode], PER_OCTET[mode]
+    tops = [int(cell.get("y")) for cell in classed(root, "cell") + classed(root, "missing")][::row]
+    parts = classed(root, "part")
+    equal("brackets", len(parts), len(spans))
+    for part, (first, behind) in zip(parts, spans):
+        left, length = 80 + first % row * wide, (behind - first) * wide - 4
+        end = "v3" if behind % per == 0 else ""
+        equal("a bracket", part.find(SVG + "path").get("d"), f"M{left} {tops[first // row] - 3}v-3h{length}{end}")
+        equal("a faint one", "faint" in part.get("class"), first >= place)
+        equal("its text", int(part.findall(SVG + "text")[-1].get("x")), left + length // 2)
+
+
+def report_words(mode, fact):
+    n, gap = fact["n"], fact["gap"]
+    octets = bytes.fromhex(fact["octets"])[:n]
+    report = f"a report of {n} octet{'' if n == 1 else 's'} in mode {mode}, {RADIOS[mode]}"
+    report += ", every octet of it 0: is the rope plugged in?" if n and not any(octets) else ""
+    close = "the best there is" if gap == BEST[mode] else "in between"
+    close = "at the edge: one more wrong chip in the worst symbol loses the frame" if gap == EDGE[mode] else close
+    repaired = f"{fact['count']} of {(6 + n) * PER_OCTET[mode] * SIZES[mode]} chips repaired, smallest gap {gap} of {BEST[mode]}, {close}"
+    fcs = "too short to have one"
+    if n > 2:
+        right = right_fcs(octets[:-2])
+        wrong = f"wrong, or none was sent: it ends in {octets[-2:].hex(' ')}, and an FCS would be {right.hex(' ')}"
+        fcs = "right, the last two octets" if octets[-2:] == right else wrong
+    limit = sum(nearest == ACCEPTED[mode] for _, _, nearest, _ in fact["symbols"][: fact["place"]])
+    far = f"; {limit} symbol{'' if limit == 1 else 's'} as far off as is accepted" if limit else ""
+    return [report, repaired, f"polarity {fact['polarity']}, {'inverted' if fact['polarity'] else 'as sent'}; FCS {fcs}{far}"]
+
+
+def refusal_words(mode, fact, asked, first, count):
+    number, place, per = fact["number"], fact["place"], PER_OCTET[mode]
+    octet, byte = place // per, place * SIZES[mode]
+    if number == NOCHIP:
+        byte = next(byte for byte in range(byte, len(first)) if first[byte] > 1)
+    part = (PARTS + [f"(octet {octet - 6} of the report)"])[min(octet, 6)]
+    refusal = f"no report in mode {mode}, {RADIOS[mode]}: {number}, {fact['meaning']}, at symbol {place}, byte {byte}, octet {octet} {part}"
+    how_far = "" if asked >= 0 else "no mode reads it, and none got farther; "
+    sized = fact["taken"] >= 6 * per
+    how_far += f"{place} of {(6 + fact['length']) * per} symbols read" if sized else f"{place} symbol{'' if place == 1 else 's'} read"
     gaps = [following - nearest for _, _, nearest, following in fact["symbols"][:place]]
-    if fact["number"] == DONE:
-        equal("report", lines[1].split(", every")[0], f"a report of {fact['n']} octet{'' if fact['n'] == 1 else 's'} in mode {mode}, {RADIOS[mode]}")
-        equal("zeros", "every octet of it 0" in lines[1], fact["n"] > 0 and not any(bytes.fromhex(fact["octets"])[: fact["n"]]))
-        chips = (6 + fact["n"]) * PER_OCTET[mode] * SIZES[mode]
-        assert lines[2].startswith(f"{fact['count']} of {chips} chips repaired, smallest gap {fact['gap']} of {BEST[mode]}, "), lines[2]
-        assert lines[3].startswith(f"polarity {fact['polarity']}, "), lines[3]
-        limit = sum(nearest == ACCEPTED[mode] for _, _, nearest, _ in fact["symbols"][:place])
-        far = f"; {limit} symbol{'' if limit == 1 else 's'} as far off as is accepted" if limit else ""
-        assert lines[3].endswith(far) and ("as far off" in lines[3]) == (limit > 0), (lines[3], limit)
-    else:
-        assert lines[1].startswith(f"no report in mode {mode}, {RADIOS[mode]}: {fact['number']}, {fact['meaning']}, at symbol {place}, byte "), lines[1]
-        sized = fact["taken"] >= 6 * PER_OCTET[mode]
-        words = "" if facts["asked"] >= 0 else "no mode reads it, and none got farther; "
-        words += f"{place} of {(6 + fact['length']) * PER_OCTET[mode]} symbols read" if sized else f"{place} symbol{'' if place == 1 else 's'} read"
-        equal("how much was read", lines[2], words + (f", the smallest gap among them {min(gaps)}" if gaps else ""))
-        equal("what is faint", any(line.startswith("what is faint") for line in lines), bool(classed(root, "symbol")[place + 1 :]))
+    how_far += f", the smallest gap among them {min(gaps)}" if gaps else ""
+    faint = ["what is faint was not read: it shows what each symbol by itself is nearest to"] if count > place + 1 else []
+    return [refusal, how_far] + faint
+
+
+def check_words(root, facts, mode, fact, first, count):
+    """Every line of words, the key and the legend."""
+    name = shown(bytes.fromhex(facts["name"]))
+    told = report_words(mode, fact) if fact["number"] == DONE else refusal_words(mode, fact, facts["asked"], first, count)
+    key = ["chips from the nearest word"] + [str(k) for k in range(ACCEPTED[mode] + 1)] + [f"above {ACCEPTED[mode]}: lost", "a byte that is no chip"]
+    legend = [LEGEND[0], LEGEND[1] if mode else ENCODED, LEGEND[2]]
+    equal("words", texts(root, "words"), [name] + told + key + legend)
+    equal("title", root.find(SVG + "title").text, f"{name}: {told[0]}")
+    shades = [colour(mode, (DONE, 0, k, 0)) for k in range(ACCEPTED[mode] + 1)] + ["lost", "none"]
+    equal("swatches", [swatch.get("class") for swatch in classed(root, "swatch")], ["swatch " + shade for shade in shades])
 
 
 def check(facts, picture):
@@ -244,7 +303,7 @@ def check(facts, picture):
     check_worst(root, groups, fact, mode, notes)
     check_end(root, groups, mode, fact, notes, len(first))
     check_parts(root, mode, fact, len(groups))
-    check_words(root, facts, mode, fact)
+    check_words(root, facts, mode, fact, first, len(groups))
     return fact["number"]
 
 

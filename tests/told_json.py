@@ -2,10 +2,11 @@
 are stored of each: once in the plain profile, then in the checked one, in which a report's FCS has
 to be right.
     told_json.py captures/said"""
-import binascii
 import json
 import os
 import sys
+
+from fcs import right_fcs
 
 CHECKED = {14, 15, 16}  # what the check refuses, in the checked profile alone
 RADIOS = ["868/915 BPSK", "2450 O-QPSK", "868/915 O-QPSK"]
@@ -21,12 +22,6 @@ HINTS = {  # those of the captures, with their numbers; "check" is that of every
 
 def text_of(octets):
     return "".join(chr(octet) if 0x20 <= octet < 0x7F else "." for octet in octets)
-
-
-def right_fcs(octets):
-    """The FCS by another CRC: binascii's is the ITU-T's, highest bit first."""
-    turned = bytes(int(f"{octet:08b}"[::-1], 2) for octet in octets)
-    return int(f"{binascii.crc_hqx(turned, 0):016b}"[::-1], 2).to_bytes(2, "little")
 
 
 def check_mode(outcome):
