@@ -91,7 +91,7 @@ static void draw_refusal(FILE *out, const struct view *view, int left)
     fputs("</text>\n", out);
     if (symbols->count > symbols->read + 1) {
         begin_line(out, "words", left, 96);
-        fputs("what is faint was not read: it shows what each symbol by itself is nearest to</text>\n", out);
+        fputs("what is faint was not read: it shows how far off each symbol by itself is</text>\n", out);
     }
 }
 

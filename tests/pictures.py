@@ -271,7 +271,7 @@ def refusal_words(mode, fact, asked, first, count):
     how_far += f"{place} of {(6 + fact['length']) * per} symbols read" if sized else f"{place} symbol{'' if place == 1 else 's'} read"
     gaps = [following - nearest for _, _, nearest, following in fact["symbols"][:place]]
     how_far += f", the smallest gap among them {min(gaps)}" if gaps else ""
-    faint = ["what is faint was not read: it shows what each symbol by itself is nearest to"] if count > place + 1 else []
+    faint = ["what is faint was not read: it shows how far off each symbol by itself is"] if count > place + 1 else []
     return [refusal, how_far] + faint
 
 
