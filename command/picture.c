@@ -55,7 +55,17 @@ static size_t reading_ended_at(const struct view *view)
     return refused(view) ? view->symbols.read : view->symbols.read - 1;
 }
 
-/* What is lost has no value, only a word that it is nearest to. */
+/* What is lost has no value, only a word that it is nearest to, and what is flat not even that. */
+static void put_value(FILE *out, const lernazhup_matched *symbol)
+{
+    if (symbol->number == LERNAZHUP_DONE)
+        fprintf(out, "value %x, ", (unsigned)symbol->word);
+    else if (gap_of(symbol) > 0)
+        fprintf(out, "lost, nearest to %x: ", (unsigned)symbol->word);
+    else
+        fputs("lost, several words as near: ", out);
+}
+
 static void put_title(FILE *out, const struct view *view, size_t at)
 {
     const lernazhup_matched *symbol = &view->symbols.of[at];
@@ -65,7 +75,7 @@ static void put_title(FILE *out, const struct view *view, size_t at)
         byte = no_chip(view->capture, from);
         fprintf(out, "byte %zu is %u, which is no chip", byte, view->capture->bytes[byte]);
     } else {
-        fprintf(out, symbol->number == LERNAZHUP_LOST ? "lost, nearest to %x: " : "value %x, ", (unsigned)symbol->word);
+        put_value(out, symbol);
         fprintf(out, "nearest %u, next %u, gap %u", (unsigned)symbol->nearest, (unsigned)symbol->next, (unsigned)gap_of(symbol));
     }
     fputs(at > view->symbols.read ? "; not read</title>" : "</title>", out);
@@ -91,7 +101,7 @@ static void draw_cell(FILE *out, const struct view *view, size_t at, int left, i
         fprintf(out, "<path class=\"cross\" d=\"M%d %dl%d %dm0 %dl%d %d\"/>", left + 1, top, width, CELL_HEIGHT, -CELL_HEIGHT, -width, CELL_HEIGHT);
 }
 
-/* What stands under a symbol, on one of the lines. */
+/* What stands under a symbol, on one of the lines: a form with that number, or without one. */
 static void put_under(FILE *out, const char *kind, int middle, int line, const char *form, uint32_t number)
 {
     fprintf(out, "<text class=\"%s\" x=\"%d\" y=\"%d\">", kind, middle, line);

@@ -293,6 +293,18 @@ static void read_twice(struct outcomes *outcomes)
     outcomes->read = 2;
 }
 
+/* The first that reads; else none got farther, and none as far before it. */
+static void check_foremost(const struct outcomes *outcomes)
+{
+    const struct outcome *first = foremost(outcomes), *other;
+    for (other = outcomes->of; other < outcomes->of + outcomes->tried; other++) {
+        demand(other >= first || other->reading.number != LERNAZHUP_DONE, "another mode reads before");
+        demand(outcomes->read > 0 || refused_at(other) <= refused_at(first), "another mode got farther");
+        demand(outcomes->read > 0 || other >= first || refused_at(other) < refused_at(first), "another mode got as far before");
+    }
+    demand(outcomes->read == 0 || first->reading.number == LERNAZHUP_DONE, "another mode reads");
+}
+
 static void try_input(void)
 {
     struct arguments asked = try_arguments();
@@ -316,6 +328,7 @@ static void try_input(void)
         demand(!hint_reads(&account.hints.list[k]) || hint_of(&account, SHORT) == NULL, "too short, and reads");
     }
     read_twice(&account.outcomes);
+    check_foremost(&account.outcomes);
     check_told(&account, (int)draw(2));
     if (draw(32) == 0)
         check_picture(account.name, asked.mode);

@@ -127,28 +127,31 @@ def check_symbol(group, at, mode, fact, first):
         title += f"byte {byte} is {first[byte]}, which is no chip"
         check_under(group, cell, number, [("none", "?")])
     else:
-        title += f"lost, nearest to {word:x}: " if number == LOST else f"value {word:x}, "
+        lost = f"lost, nearest to {word:x}: " if following > nearest else "lost, several words as near: "
+        title += lost if number == LOST else f"value {word:x}, "
         title += f"nearest {nearest}, next {following}, gap {following - nearest}"
         value = ("none", "lost") if number == LOST else ("value", f"{word:x}")
         check_under(group, cell, number, [value, ("nearest", str(nearest)), ("next", str(following))])
     equal("title", group.find(SVG + "title").text, title + ("; not read" if at > fact["place"] else ""))
 
 
-def check_rows(root, groups, mode):
-    """Rows of equal length, none of their cells on another, all within the picture."""
+def check_rows(root, mode, fact, places):
+    """Rows of equal length; where each has its cells and its notes, and how high all is."""
     wide, high = int(root.get("width")), int(root.get("height"))
+    row, rows, width = ROWS[mode], -(-places // ROWS[mode]), 1024 // ROWS[mode]
     equal("the box", root.get("viewBox"), f"0 0 {wide} {high}")
-    tops = []
-    for at, group in enumerate(groups):
-        (cell,) = classed(group, "cell")
-        left, top, width, height = square(cell)
-        column = at % ROWS[mode]
-        equal("a cell's place", left, 79 + column * 1024 // ROWS[mode])
-        equal("a cell's width", width, 1024 // ROWS[mode] - 2)
-        if column == 0:
-            assert not tops or top >= tops[-1] + height + 40, "rows too close"
-            tops.append(top)
-        equal("a row's height", top, tops[-1])
+    equal("the height", high, 212 + 106 * rows + 16)
+    gaps = [following - nearest for _, _, nearest, following in fact["symbols"][: fact["place"]]]
+    noted = [gaps.index(min(gaps))] if gaps else []
+    noted.append(fact["place"] if fact["number"] != DONE else fact["place"] - 1)
+    top, notes, cells = 212, [], []
+    for first in range(0, places, row):
+        lines = [at for at in noted if first <= at < first + row]
+        notes += [top + 99 + 16 * line for line in range(len(lines))]
+        cells += [[79 + column * width, top + 24, width - 2, 20] for column in range(min(row, places - first))]
+        top += 106 + 16 * (len(lines) > 1)
+    equal("cells", [square(cell) for cell in classed(root, "cell") + classed(root, "missing")], cells)
+    equal("lines of notes", [int(note.find(SVG + "text").get("y")) for note in classed(root, "note")], notes)
     for element in root.iter():
         if element.get("x") is not None:
             assert 0 <= int(element.get("x")) <= wide and 0 <= int(element.get("y")) <= high, element.attrib
@@ -186,16 +189,14 @@ def check_end(root, groups, mode, fact, notes, have):
         cells += classed(root, "missing")
         title = list(root.iter(SVG + "title"))[-1].text
         equal("what is missing", title, f"symbol {place}: {have % SIZES[mode]} of its {SIZES[mode]} bytes came")
-        column, row = place % ROWS[mode], place // ROWS[mode]
-        wide = 1024 // ROWS[mode]
-        above = square(cells[row * ROWS[mode]])[1] if column else square(cells[-1])[1]
-        equal("where it is missing", square(cells[-1]), [79 + column * wide, above, wide - 2, 20])
     equal("the refused symbol", framed(root, "ended", groups), [place] if number != DONE else [])
     equal("the end", notes, [(words, middle(cells[place if number else place - 1]))])
     equal("a refusal's bar", [bar.get("height") for bar in classed(root, "bar")], [root.get("height")] if number != DONE else [])
     rows = -(-(len(cells)) // ROWS[mode])
-    margins = [[text.text for text in margin] for margin in classed(root, "margin")]
-    equal("margins", margins, [[str(row * ROWS[mode]), "value", "nearest", "next"] + (["no report"] if number != DONE else []) for row in range(rows)])
+    lines = [("value", 35), ("nearest", 48), ("next", 60)] + ([("no report", -11)] if number != DONE else [])
+    tops = [int(cell.get("y")) for cell in cells[:: ROWS[mode]]]
+    margins = [[(text.text, int(text.get("y")) - top) for text in margin] for margin, top in zip(classed(root, "margin"), tops)]
+    equal("margins", margins, [[(str(row * ROWS[mode]), 14)] + lines for row in range(rows)])
 
 
 def check_parts(root, mode, fact, count):
@@ -298,7 +299,7 @@ def check(facts, picture):
     equal("cells", len(classed(root, "cell")), len(groups))
     for at, group in enumerate(groups):
         check_symbol(group, at, mode, fact, first)
-    check_rows(root, groups, mode)
+    check_rows(root, mode, fact, len(groups) + (fact["number"] == RUNOUT))
     notes = [(note.find(SVG + "text").text, int(re.match(r"M(\d+) ", note.find(SVG + "path").get("d"))[1])) for note in classed(root, "note")]
     check_worst(root, groups, fact, mode, notes)
     check_end(root, groups, mode, fact, notes, len(first))
