@@ -55,7 +55,8 @@ static size_t reading_ended_at(const struct view *view)
     return refused(view) ? view->symbols.read : view->symbols.read - 1;
 }
 
-/* What is lost has no value, only a word that it is nearest to, and what is flat not even that. */
+/* What is lost has no value, only a word that it is nearest to, and where several are as near not
+ * even that. */
 static void put_value(FILE *out, const lernazhup_matched *symbol)
 {
     if (symbol->number == LERNAZHUP_DONE)
