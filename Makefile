@@ -1,5 +1,6 @@
-# make run        make send, the command and the bench program on the captures, and the example
-#                 gateway; with CAPTURE=file the bench program on that capture and nothing else
+# make run        make send, the command and the bench program on the captures, a picture of one of
+#                 them, and the example gateway; with CAPTURE=file the bench program on that capture
+#                 and nothing else
 # make command    build/lernazhup, the command for the bench
 # make send       a report to a raw capture: MODE=0, 1 or 2, PROFILE=plain or checked (the
 #                 environment's too), REPORT=file, OUT=file
