@@ -26,7 +26,8 @@ static const char style[] =
     ".symbol text,.octet,.name{text-anchor:middle}\n"
     ".value,.octet,.note text{font-weight:bold}.value{font-size:14px}.refused{font-weight:normal}text.none{font-size:11px}\n"
     ".margin text,.before{text-anchor:end}.margin text,.number{fill:#57606a;font-size:11px}\n"
-    ".faint rect,.faint path{opacity:.5}.faint text,.faint .cross{opacity:.7}\n"
+    ".faint rect,.faint path{opacity:.6}.faint text,.faint .cross{opacity:.7}.faint .value{font-weight:normal}\n"
+    ".symbol{pointer-events:bounding-box}.worst,.ended{pointer-events:none}\n"
     "@media screen and (prefers-color-scheme:dark){\n"
     "svg{background:#12161b}text{fill:#e6e8eb}.page,rect.none{fill:#12161b}.margin text,.number{fill:#9aa4b0}\n"
     ".cell,.swatch{stroke:#8b95a1}.part path,.missing,.worst{stroke:#e6e8eb}.ended{stroke:#f2a46f}.note path{fill:#e6e8eb}}\n"
@@ -91,7 +92,7 @@ static void draw_refusal(FILE *out, const struct view *view, int left)
     fputs("</text>\n", out);
     if (symbols->count > symbols->read + 1) {
         begin_line(out, "words", left, 96);
-        fputs("what is faint was not read: it shows how far off each symbol by itself is</text>\n", out);
+        fputs("what is low and faint was not read: it shows how far off each symbol by itself is</text>\n", out);
     }
 }
 

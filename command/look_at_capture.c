@@ -23,7 +23,10 @@ static enum status tell(const struct arguments *asked, const struct view *view)
 static enum status put_picture(const struct arguments *asked, const struct view *view)
 {
     struct draft draft;
-    enum status status = begin_draft(&draft);
+    enum status status;
+    if (would_replace_it(asked))
+        return useless(asked->output, "is the capture itself");
+    status = begin_draft(&draft, PICTURE_MAX);
     if (status != GOOD)
         return status;
     draw_picture(draft.out, view);
@@ -38,8 +41,7 @@ enum status look_at_capture(const struct arguments *asked)
     static struct input capture;
     static struct view view;
     const char *name;
-    enum status status = open_only(&capture, asked, "a picture is not for a terminal: -o PICTURE.svg puts it into a file",
-                                   "is the capture itself", &name);
+    enum status status = open_only(&capture, asked, "a picture is not for a terminal: -o PICTURE.svg puts it into a file", &name);
     if (status != GOOD)
         return status;
     see(&view, &capture, name, asked->mode);

@@ -1,4 +1,4 @@
-/* Nothing is read before it is clear that what is made of it has a place. */
+/* A file that is read is not replaced, by whatever name. */
 #define _POSIX_C_SOURCE 200809L
 #include "one_file.h"
 
@@ -7,15 +7,22 @@
 
 #include "output.h"
 
-enum status open_only(struct input *input, const struct arguments *asked, const char *terminal, const char *itself, const char **told)
+static const char *only_name(const struct arguments *asked)
 {
-    const char *name = asked->count > 0 ? asked->names[0] : "-";
+    return asked->count > 0 ? asked->names[0] : "-";
+}
+
+enum status open_only(struct input *input, const struct arguments *asked, const char *terminal, const char **told)
+{
     int failed;
-    *told = told_name(name);
+    *told = told_name(only_name(asked));
     if (asked->output == NULL && isatty(STDOUT_FILENO))
         return useless(NULL, terminal);
-    if (is_the_input(asked->output, name))
-        return useless(asked->output, itself);
-    failed = open_input(input, name);
+    failed = open_input(input, only_name(asked));
     return failed == 0 ? GOOD : useless(*told, strerror(failed));
+}
+
+int would_replace_it(const struct arguments *asked)
+{
+    return is_the_input(asked->output, only_name(asked));
 }

@@ -7,8 +7,11 @@
 #include "standard.h"
 
 /* Opens the file that a verb is asked for, standard input where there is none, and gives its name
- * as told. Not where what is made would go to a terminal that nobody named, or in the place of that
- * file: then, and where it can't be opened, USELESS, with these words on either. */
-enum status open_only(struct input *input, const struct arguments *asked, const char *terminal, const char *itself, const char **told);
+ * as told. USELESS where it can't be opened, or where what is made would go to a terminal that
+ * nobody named: then with these words. */
+enum status open_only(struct input *input, const struct arguments *asked, const char *terminal, const char **told);
+
+/* Whether what is made of it is to go in the place of that file. */
+int would_replace_it(const struct arguments *asked);
 
 #endif

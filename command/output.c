@@ -37,18 +37,24 @@ enum status put_output(const char *output, const void *bytes, size_t length)
     return written_out() ? GOOD : USELESS;
 }
 
-enum status begin_draft(struct draft *draft)
+/* Memory that a stream takes as it goes may be wanting without a word, and what was written is then
+ * cut short. */
+enum status begin_draft(struct draft *draft, size_t most)
 {
-    draft->bytes = NULL;
-    draft->length = 0;
-    draft->out = open_memstream(&draft->bytes, &draft->length);
-    return draft->out != NULL ? GOOD : useless(NULL, strerror(errno));
+    draft->bytes = malloc(most);
+    draft->out = draft->bytes == NULL ? NULL : fmemopen(draft->bytes, most, "wb");
+    if (draft->out != NULL)
+        return GOOD;
+    free(draft->bytes);
+    return useless(NULL, strerror(ENOMEM));
 }
 
 enum status put_draft(const char *output, struct draft *draft)
 {
-    enum status status = fclose(draft->out) == 0 ? put_output(output, draft->bytes, draft->length) : useless(NULL, strerror(ENOMEM));
-    free(draft->bytes);
+    int whole = fflush(draft->out) == 0 && !ferror(draft->out);
+    long length = ftell(draft->out);
+    enum status status = whole && length >= 0 ? put_output(output, draft->bytes, (size_t)length) : useless(NULL, strerror(ENOMEM));
+    drop_draft(draft);
     return status;
 }
 

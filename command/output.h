@@ -17,14 +17,14 @@ int is_the_input(const char *output, const char *input);
 /* Puts bytes there. A file that is there is replaced, whole or not at all. */
 enum status put_output(const char *output, const void *bytes, size_t length);
 
-/* The same for what is written to a stream first, in memory. */
+/* The same for what is first written to a stream, in memory that is there from the beginning: so
+ * many bytes at most. */
 struct draft {
     FILE *out;
     char *bytes;
-    size_t length;
 };
 
-enum status begin_draft(struct draft *draft);
+enum status begin_draft(struct draft *draft, size_t most);
 enum status put_draft(const char *output, struct draft *draft);
 void drop_draft(struct draft *draft);
 

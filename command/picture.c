@@ -82,49 +82,58 @@ static void put_title(FILE *out, const struct view *view, size_t at)
     fputs(at > view->symbols.read ? "; not read</title>" : "</title>", out);
 }
 
-/* A rectangle of the size of a cell, or larger by some pixels on every side. Cells are two pixels
+/* A rectangle of the width of a cell, or larger by some pixels on every side. Cells are two pixels
  * apart. */
-static void put_rect(FILE *out, const struct view *view, int left, int top, int larger)
+static void put_rect(FILE *out, const struct view *view, int left, int top, int height, int larger)
 {
     fprintf(out, "x=\"%d\" y=\"%d\" width=\"%d\" height=\"%d\"/>", left + 1 - larger, top - larger, cell_width(view) - 2 + 2 * larger,
-            CELL_HEIGHT + 2 * larger);
+            height + 2 * larger);
 }
 
+/* One that was not read has half the height. */
 static void draw_cell(FILE *out, const struct view *view, size_t at, int left, int top)
 {
     const lernazhup_matched *symbol = &view->symbols.of[at];
-    int width = cell_width(view) - 2;
+    int width = cell_width(view) - 2, height = at > view->symbols.read ? CELL_HEIGHT / 2 : CELL_HEIGHT;
+    top += CELL_HEIGHT - height;
     fputs("<rect class=\"cell ", out);
     put_colour(out, view->outcome->mode, symbol);
     fputs("\" ", out);
-    put_rect(out, view, left, top, 0);
+    put_rect(out, view, left, top, height, 0);
     if (symbol->number == LERNAZHUP_LOST)
-        fprintf(out, "<path class=\"cross\" d=\"M%d %dl%d %dm0 %dl%d %d\"/>", left + 1, top, width, CELL_HEIGHT, -CELL_HEIGHT, -width, CELL_HEIGHT);
+        fprintf(out, "<path class=\"cross\" d=\"M%d %dl%d %dm0 %dl%d %d\"/>", left + 1, top, width, height, -height, -width, height);
 }
 
-/* What stands under a symbol, on one of the lines: a form with that number, or without one. */
-static void put_under(FILE *out, const char *kind, int middle, int line, const char *form, uint32_t number)
+/* What stands under a symbol, on one of the lines. */
+static void put_under(FILE *out, const char *kind, int middle, int line, const char *text)
 {
-    fprintf(out, "<text class=\"%s\" x=\"%d\" y=\"%d\">", kind, middle, line);
-    fprintf(out, form, (unsigned)number);
-    fputs("</text>", out);
+    fprintf(out, "<text class=\"%s\" x=\"%d\" y=\"%d\">%s</text>", kind, middle, line, text);
+}
+
+/* The lines under a symbol. */
+static void draw_numbers(FILE *out, const lernazhup_matched *symbol, int middle, int top)
+{
+    char text[16];
+    snprintf(text, sizeof text, "%x", (unsigned)symbol->word);
+    if (symbol->number == LERNAZHUP_DONE)
+        put_under(out, "value", middle, top + VALUE_TEXT, text);
+    else
+        put_under(out, "none", middle, top + VALUE_TEXT, symbol->number == LERNAZHUP_LOST ? "lost" : "?");
+    if (symbol->number == LERNAZHUP_NOCHIP)
+        return;
+    snprintf(text, sizeof text, "%u", (unsigned)symbol->nearest);
+    put_under(out, "nearest", middle, top + NEAREST_TEXT, text);
+    snprintf(text, sizeof text, "%u", (unsigned)symbol->next);
+    put_under(out, "next", middle, top + NEXT_TEXT, text);
 }
 
 static void draw_symbol(FILE *out, const struct view *view, const struct row *row, size_t at)
 {
-    const lernazhup_matched *symbol = &view->symbols.of[at];
-    int left = cell_left(view, row, at), middle = left + cell_width(view) / 2;
+    int left = cell_left(view, row, at);
     fprintf(out, "<g class=\"symbol%s\">", at > view->symbols.read ? " faint" : "");
     put_title(out, view, at);
     draw_cell(out, view, at, left, row->top + CELL_TOP);
-    if (symbol->number == LERNAZHUP_DONE)
-        put_under(out, "value", middle, row->top + VALUE_TEXT, "%x", symbol->word);
-    else
-        put_under(out, "none", middle, row->top + VALUE_TEXT, symbol->number == LERNAZHUP_LOST ? "lost" : "?", 0);
-    if (symbol->number != LERNAZHUP_NOCHIP) {
-        put_under(out, "nearest", middle, row->top + NEAREST_TEXT, "%u", symbol->nearest);
-        put_under(out, "next", middle, row->top + NEXT_TEXT, "%u", symbol->next);
-    }
+    draw_numbers(out, &view->symbols.of[at], left + cell_width(view) / 2, row->top);
     fputs("</g>\n", out);
 }
 
@@ -214,7 +223,7 @@ static void note_end(FILE *out, const struct view *view)
 static void draw_frame(FILE *out, const struct view *view, const struct row *row, size_t at, const char *kind)
 {
     fprintf(out, "<rect class=\"%s\" ", kind);
-    put_rect(out, view, cell_left(view, row, at), row->top + CELL_TOP, 2);
+    put_rect(out, view, cell_left(view, row, at), row->top + CELL_TOP, CELL_HEIGHT, 2);
 }
 
 /* There is a line for notes in each row; gives the height of what goes below it. */
@@ -258,7 +267,7 @@ static void draw_missing(FILE *out, const struct view *view, const struct row *r
 {
     size_t size = LERNAZHUP_SYMBOL_CHIPS(view->outcome->mode);
     fprintf(out, "<g><title>symbol %zu: %zu of its %zu bytes came</title><rect class=\"missing\" ", at, view->capture->have % size, size);
-    put_rect(out, view, cell_left(view, row, at), row->top + CELL_TOP, 0);
+    put_rect(out, view, cell_left(view, row, at), row->top + CELL_TOP, CELL_HEIGHT, 0);
     fputs("</g>\n", out);
 }
 

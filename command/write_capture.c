@@ -39,7 +39,10 @@ static enum status tell(const struct arguments *asked, const struct frame *frame
 
 static enum status put_frame(const struct arguments *asked, const struct frame *frame, const struct input *report)
 {
-    enum status status = put_output(asked->output, frame->chips, frame->count);
+    enum status status;
+    if (would_replace_it(asked))
+        return useless(asked->output, "is the report itself");
+    status = put_output(asked->output, frame->chips, frame->count);
     return status == GOOD && is_a_file(asked->output) ? tell(asked, frame, report->have) : status;
 }
 
@@ -48,8 +51,7 @@ enum status write_capture(const struct arguments *asked)
     static struct input report;
     static struct frame frame;
     const char *name;
-    enum status status = open_only(&report, asked, "chips are not for a terminal: -o CAPTURE puts them into a file",
-                                   "is the report itself", &name);
+    enum status status = open_only(&report, asked, "chips are not for a terminal: -o CAPTURE puts them into a file", &name);
     if (status != GOOD)
         return status;
     /* an octet more than a report may have, for the library to refuse it */

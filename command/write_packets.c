@@ -13,6 +13,9 @@
 /* IEEE 802.15.4, each packet with its FCS, or without one. */
 enum { WITH_FCS = 195, WITHOUT_FCS = 230 };
 
+/* Octets of the file's header, and at most of a packet with its own. */
+enum { HEADER = 24, PACKET_MAX = 16 + LERNAZHUP_REPORT_MAX };
+
 static void put_number(FILE *out, uint32_t number, int octets)
 {
     for (; octets > 0; octets--, number >>= 8)
@@ -72,6 +75,8 @@ static enum status add_packet(FILE *out, const struct arguments *asked, const ch
         status = skip(name, outcome, &capture);
     else
         put_packet(out, outcome);
+    if (status == GOOD && outcome->zeros)
+        complain(name, "every octet of its report is 0: is the rope plugged in?");
     close_input(&capture);
     return status;
 }
@@ -103,7 +108,7 @@ static size_t add_packets(FILE *out, const struct arguments *asked, size_t *pack
 static enum status put_packets(const struct arguments *asked)
 {
     struct draft draft;
-    enum status status = begin_draft(&draft), put;
+    enum status status = begin_draft(&draft, HEADER + asked->count * PACKET_MAX), put;
     size_t packets;
     if (status != GOOD)
         return status;

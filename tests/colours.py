@@ -1,5 +1,5 @@
-"""Whether the colours of a picture can be told apart: in grey, and by eyes that lack one kind of cone,
-as the matrices of Machado, Oliveira and Fernandes (2009) have it, in CIE's Lab of 1976."""
+"""Whether the colours of a picture can be told apart: in grey, and by eyes that lack one kind of
+cone, as the matrices of Machado, Oliveira and Fernandes (2009) have it, in CIE's Lab of 1976."""
 import re
 
 EYES = {
@@ -11,10 +11,14 @@ EYES = {
 TO_XYZ = ((0.4339, 0.3762, 0.1899), (0.2126, 0.7152, 0.0722), (0.0177, 0.1095, 0.8728))  # by the white's
 
 
+def full(colour):
+    """#rrggbb or #rgb as six digits."""
+    return colour[1:] if len(colour) == 7 else "".join(2 * digit for digit in colour[1:])
+
+
 def linear(colour):
-    """#rrggbb or #rgb as light, each from 0 to 1."""
-    digits = colour[1:] if len(colour) == 7 else "".join(2 * digit for digit in colour[1:])
-    parts = [int(digits[at : at + 2], 16) / 255 for at in (0, 2, 4)]
+    """As light, each part from 0 to 1."""
+    parts = [int(part, 16) / 255 for part in re.findall("..", full(colour))]
     return [part / 12.92 if part <= 0.04045 else ((part + 0.055) / 1.055) ** 2.4 for part in parts]
 
 
@@ -37,17 +41,31 @@ def contrast(one, other):
     return lights[1] / lights[0]
 
 
+def through(colour, page, opacity):
+    """A colour as it comes through on a page."""
+    mixed = [opacity * int(one, 16) + (1 - opacity) * int(other, 16) for one, other in zip(*(re.findall("..", full(name)) for name in (colour, page)))]
+    return "#" + "".join(f"{round(part):02x}" for part in mixed)
+
+
+def check_shades(shades, lost, least, in_grey):
+    for one, other in zip(shades, shades[1:]):
+        assert contrast(one, other) > in_grey, ("in grey", one, other, contrast(one, other))
+        assert all(apart(one, other, eye) > least for eye in EYES), (one, other, [apart(one, other, eye) for eye in EYES])
+    assert all(apart(shade, lost, eye) > least for shade in shades for eye in EYES), lost
+
+
 def check_colours(style):
-    """On a light page and on a dark one: neighbouring shades, what is lost, and text."""
+    """On a light page and on a dark one: neighbouring shades, what is lost, and text, all of it as
+    it is read and as it is faint."""
+    cells, text = (float(found) for found in re.search(r"\.faint path\{opacity:([.\d]+)\}\.faint text,[^{]*\{opacity:([.\d]+)\}", style).groups())
     light, dark = style.split("@media screen and (prefers-color-scheme:dark){")
     fills = {}
     for rules in (light, dark.split("@page")[0]):
         for names, fill in re.findall(r"([^{}]*)\{[^{}]*?fill:(#\w+)", rules):
-            fills.update((name.strip().removeprefix("."), fill) for name in names.split(","))
-        shades = [fills[f"d{k}"] for k in range(7)]
-        for one, other in zip(shades, shades[1:]):
-            assert contrast(one, other) > 1.29, ("in grey", one, other)
-            assert all(apart(one, other, eye) > 14 for eye in EYES), (one, other, [apart(one, other, eye) for eye in EYES])
-        assert all(apart(shade, fills["lost"], eye) > 14 for shade in shades for eye in EYES)
-        assert contrast(fills["text"], fills["page"]) > 10 and contrast(fills["number"], fills["page"]) > 5
+            fills.update((name.strip().lstrip("."), fill) for name in names.split(","))
+        shades, page = [fills[f"d{k}"] for k in range(7)], fills["page"]
+        check_shades(shades, fills["lost"], 14, 1.29)
+        check_shades([through(shade, page, cells) for shade in shades], through(fills["lost"], page, cells), 8, 1.15)
+        assert contrast(fills["text"], page) > 10 and contrast(through(fills["text"], page, text), page) > 4.5
+        assert contrast(fills["number"], page) > 5
     assert fills["page"] == "#12161b", "the dark page was not looked at"

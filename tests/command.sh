@@ -1,5 +1,6 @@
 # What the tests of the command share, after common.sh: the command as it was built with the
 # sanitizers, from a copy in $room that every user may run.
+umask 022
 here=$PWD
 command=$room/lernazhup
 cp build/lernazhup-sanitized "$command" && chmod 755 "$room" "$command" || exit 2

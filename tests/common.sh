@@ -5,6 +5,8 @@
 unset CDPATH
 # what the make around a test was asked for is not meant for those that the test starts
 unset MAKEFLAGS MAKEOVERRIDES GNUMAKEFLAGS PROFILE
+# Python keeps nothing beside the scripts that it runs
+export PYTHONDONTWRITEBYTECODE=1
 cd "$(dirname "$0")/.." || exit 2
 room=$(mktemp -d) || exit 2
 trap 'rm -rf "$room"' EXIT

@@ -107,8 +107,9 @@ def check_under(group, cell, number, want):
     for line, (kind, text) in enumerate(want):
         (element,) = classed(group, kind)[-1:] or [None]
         assert element is not None and element.tag == SVG + "text", kind
-        place = [int(element.get("x")), int(element.get("y")) - int(cell.get("y"))]
-        equal(kind, [element.text] + place, [text, middle(cell), (35, 48, 60)[line]])
+        bottom = int(cell.get("y")) + int(cell.get("height"))
+        place = [int(element.get("x")), int(element.get("y")) - bottom]
+        equal(kind, [element.text] + place, [text, middle(cell), (15, 28, 40)[line]])
     equal("texts under a symbol", len(list(group.iter(SVG + "text"))), len(want))
 
 
@@ -148,7 +149,9 @@ def check_rows(root, mode, fact, places):
     for first in range(0, places, row):
         lines = [at for at in noted if first <= at < first + row]
         notes += [top + 99 + 16 * line for line in range(len(lines))]
-        cells += [[79 + column * width, top + 24, width - 2, 20] for column in range(min(row, places - first))]
+        for at in range(first, min(first + row, places)):
+            low = 10 if at > fact["place"] else 0
+            cells.append([79 + (at - first) * width, top + 24 + low, width - 2, 20 - low])
         top += 106 + 16 * (len(lines) > 1)
     equal("cells", [square(cell) for cell in classed(root, "cell") + classed(root, "missing")], cells)
     equal("lines of notes", [int(note.find(SVG + "text").get("y")) for note in classed(root, "note")], notes)
@@ -159,9 +162,9 @@ def check_rows(root, mode, fact, places):
 
 def framed(root, kind, groups):
     """The symbols with a frame of that kind, a little larger than the cell."""
-    places = {(int(frame.get("x")) + 2, int(frame.get("y")) + 2) for frame in classed(root, kind)}
+    frames = [[left + 2, top + 2, width - 4, height - 4] for left, top, width, height in map(square, classed(root, kind))]
     cells = [classed(group, "cell")[0] for group in groups] + classed(root, "missing")
-    return [at for at, cell in enumerate(cells) if (int(cell.get("x")), int(cell.get("y"))) in places]
+    return [at for at, cell in enumerate(cells) if square(cell) in frames]
 
 
 def check_worst(root, groups, fact, mode, notes):
@@ -194,7 +197,7 @@ def check_end(root, groups, mode, fact, notes, have):
     equal("a refusal's bar", [bar.get("height") for bar in classed(root, "bar")], [root.get("height")] if number != DONE else [])
     rows = -(-(len(cells)) // ROWS[mode])
     lines = [("value", 35), ("nearest", 48), ("next", 60)] + ([("no report", -11)] if number != DONE else [])
-    tops = [int(cell.get("y")) for cell in cells[:: ROWS[mode]]]
+    tops = [sum(square(cell)[1::2]) - 20 for cell in cells[:: ROWS[mode]]]
     margins = [[(text.text, int(text.get("y")) - top) for text in margin] for margin, top in zip(classed(root, "margin"), tops)]
     equal("margins", margins, [[(str(row * ROWS[mode]), 14)] + lines for row in range(rows)])
 
@@ -229,9 +232,9 @@ def check_parts(root, mode, fact, count):
 
 
 def check_brackets(root, mode, place, spans):
-    """Over which symbols each stands, faint where these were not read, open where some are wanting."""
+    """Over which symbols each stands, faint where they were not read, open where some are wanting."""
     wide, row, per = 1024 // ROWS[mode], ROWS[mode], PER_OCTET[mode]
-    tops = [int(cell.get("y")) for cell in classed(root, "cell") + classed(root, "missing")][::row]
+    tops = [sum(square(cell)[1::2]) - 20 for cell in classed(root, "cell") + classed(root, "missing")][::row]
     parts = classed(root, "part")
     equal("brackets", len(parts), len(spans))
     for part, (first, behind) in zip(parts, spans):
@@ -272,7 +275,7 @@ def refusal_words(mode, fact, asked, first, count):
     how_far += f"{place} of {(6 + fact['length']) * per} symbols read" if sized else f"{place} symbol{'' if place == 1 else 's'} read"
     gaps = [following - nearest for _, _, nearest, following in fact["symbols"][:place]]
     how_far += f", the smallest gap among them {min(gaps)}" if gaps else ""
-    faint = ["what is faint was not read: it shows how far off each symbol by itself is"] if count > place + 1 else []
+    faint = ["what is low and faint was not read: it shows how far off each symbol by itself is"] if count > place + 1 else []
     return [refusal, how_far] + faint
 
 
