@@ -9,8 +9,9 @@ import xml.etree.ElementTree as ElementTree
 
 from colours import check_colours
 from fcs import right_fcs
+from picture_layout import check_layout, check_style
+from svg import SVG, classed, equal, middle, square, texts
 
-SVG = "{http://www.w3.org/2000/svg}"
 TAGS = {"svg", "title", "style", "rect", "text", "g", "path"}
 ATTRIBUTES = {"class", "x", "y", "width", "height", "d", "viewBox"}
 SIZES, ACCEPTED, PER_OCTET, ROWS = [15, 32, 16], [6, 5, 2], [8, 2, 2], [32, 16, 16]  # by mode
@@ -26,11 +27,6 @@ ENCODED = "value: the encoded bit; an octet's bits are the lowest first, 1 where
 DONE, RUNOUT, NOCHIP, LOST = 0, 4, 5, 6
 TURNING = {0x200E, 0x200F, *range(0x2028, 0x202F), *range(0x2066, 0x206A)}
 LARGEST = 500_000
-
-
-def equal(what, got, want):
-    if got != want:
-        raise AssertionError(f"{what}: {got!r} and not {want!r}")
 
 
 def shown(raw):
@@ -70,14 +66,6 @@ def drawn_count(mode, fact):
     return min(count, len(fact["symbols"]))
 
 
-def classed(parent, kind):
-    return [element for element in parent.iter() if kind in element.get("class", "").split()]
-
-
-def texts(parent, kind):
-    return [element.text or "" for element in classed(parent, kind)]
-
-
 def check_harmless(root):
     for element in root.iter():
         assert element.tag.startswith(SVG) and element.tag[len(SVG) :] in TAGS, element.tag
@@ -85,6 +73,7 @@ def check_harmless(root):
     for style in root.iter(SVG + "style"):
         assert not re.search(r"url|import|expression|http", style.text), "a style from elsewhere"
         check_colours(style.text)
+        check_style(style.text)
 
 
 def colour(mode, symbol):
@@ -92,14 +81,6 @@ def colour(mode, symbol):
     if number == DONE:
         return f"d{int(nearest * 6 / ACCEPTED[mode] + 0.5)}"
     return "lost" if number == LOST else "none"
-
-
-def square(element):
-    return [int(element.get(side)) for side in ("x", "y", "width", "height")]
-
-
-def middle(element):
-    return int(element.get("x")) + int(element.get("width")) // 2
 
 
 def check_under(group, cell, number, want):
@@ -283,11 +264,12 @@ def check_words(root, facts, mode, fact, first, count):
     """Every line of words, the key and the legend."""
     name = shown(bytes.fromhex(facts["name"]))
     told = report_words(mode, fact) if fact["number"] == DONE else refusal_words(mode, fact, facts["asked"], first, count)
-    key = ["chips from the nearest word"] + [str(k) for k in range(ACCEPTED[mode] + 1)] + [f"above {ACCEPTED[mode]}: lost", "a byte that is no chip"]
+    limit = ACCEPTED[mode]
+    key = ["chips from the nearest word"] + [str(k) for k in range(limit + 1)] + [f"above {limit}: lost", "a byte that is no chip"]
     legend = [LEGEND[0], LEGEND[1] if mode else ENCODED, LEGEND[2]]
     equal("words", texts(root, "words"), [name] + told + key + legend)
     equal("title", root.find(SVG + "title").text, f"{name}: {told[0]}")
-    shades = [colour(mode, (DONE, 0, k, 0)) for k in range(ACCEPTED[mode] + 1)] + ["lost", "none"]
+    shades = [colour(mode, (DONE, 0, k, 0)) for k in range(limit + 1)] + ["lost", "none"]
     equal("swatches", [swatch.get("class") for swatch in classed(root, "swatch")], ["swatch " + shade for shade in shades])
 
 
@@ -308,6 +290,7 @@ def check(facts, picture):
     check_end(root, groups, mode, fact, notes, len(first))
     check_parts(root, mode, fact, len(groups))
     check_words(root, facts, mode, fact, first, len(groups))
+    check_layout(root)
     return fact["number"]
 
 
