@@ -2,6 +2,7 @@
 calls say of the capture: that a picture is well-formed, has nothing in it that acts or comes from
 elsewhere, shows as many symbols as there are, in rows, and no number that is not the library's.
     drawn_captures .. | pictures.py COUNT"""
+import functools
 import json
 import re
 import sys
@@ -66,14 +67,20 @@ def drawn_count(mode, fact):
     return min(count, len(fact["symbols"]))
 
 
+@functools.lru_cache
+def check_rules(style):
+    """The style, which is the same in every picture."""
+    assert not re.search(r"url|import|expression|http", style), "a style from elsewhere"
+    check_colours(style)
+    check_style(style)
+
+
 def check_harmless(root):
     for element in root.iter():
         assert element.tag.startswith(SVG) and element.tag[len(SVG) :] in TAGS, element.tag
         assert set(element.attrib) <= ATTRIBUTES, element.attrib
-    for style in root.iter(SVG + "style"):
-        assert not re.search(r"url|import|expression|http", style.text), "a style from elsewhere"
-        check_colours(style.text)
-        check_style(style.text)
+    (style,) = root.iter(SVG + "style")
+    check_rules(style.text)
 
 
 def colour(mode, symbol):
