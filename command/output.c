@@ -38,11 +38,12 @@ enum status put_output(const char *output, const void *bytes, size_t length)
 }
 
 /* Memory that a stream takes as it goes may be wanting without a word, and what was written is then
- * cut short. */
+ * cut short. A byte more, since a stream over memory ends with a 0, in the last byte's place where
+ * there is no other. */
 enum status begin_draft(struct draft *draft, size_t most)
 {
-    draft->bytes = malloc(most);
-    draft->out = draft->bytes == NULL ? NULL : fmemopen(draft->bytes, most, "wb");
+    draft->bytes = malloc(most + 1);
+    draft->out = draft->bytes == NULL ? NULL : fmemopen(draft->bytes, most + 1, "wb");
     if (draft->out != NULL)
         return GOOD;
     free(draft->bytes);
