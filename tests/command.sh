@@ -84,3 +84,29 @@ on_a_full_disk() {
 flat_chips() { # COUNT CHIP: so many
     head -c "$1" /dev/zero | tr '\000' "\\00$2"
 }
+
+# in_little_memory OUTPUT WHOLE ARGUMENTS..: with more and more memory the command leaves the old
+# file in OUTPUT's place, and says why, until it puts there what is in WHOLE. Without the sanitizers,
+# which want more memory than any. A program that can't be loaded, 127, has not begun
+in_little_memory() {
+    output=$1 whole=$2 seen='' kilobytes=2000
+    shift 2
+    if [ -n "$runner" ] || ! command -v prlimit >/dev/null; then
+        echo "$name, little memory: not tried, since it can't be set here"
+        return
+    fi
+    while [ $kilobytes -le 6000 ]; do
+        printf old >"$output"
+        prlimit --as=$((kilobytes * 1024)) "$here/build/lernazhup" "$@" >"$room/out" 2>"$room/err"
+        case "$? $(tr '\n' / <"$room/err")" in
+        '0 ') cmp -s "$output" "$whole" && seen="$seen whole" || seen="$seen cut" ;;
+        '2 lernazhup: '*'Cannot allocate memory/') grep -qx old "$output" && seen="$seen old" || seen="$seen lost" ;;
+        '127 '*) grep -qx old "$output" || seen="$seen lost" ;;
+        *) seen="$seen other" ;;
+        esac
+        kilobytes=$((kilobytes + 50))
+    done
+    seen=$(echo "$seen" | tr ' ' '\n' | uniq | tr '\n' ' ')
+    same 'little memory' "${seen# old}" ' whole '
+    [ "$seen" = ' old whole ' ] || echo "$name, too little memory: not tried, since it is loaded with no less than it needs"
+}
