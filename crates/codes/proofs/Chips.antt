@@ -8,7 +8,7 @@ use lib.ListN.{length, getD, take, drop, length-take}
 use lib.Seq.{take-suc, getD-take, getD-drop}
 use lib.Bits.{bitXor}
 use lib.Dec.{eqb, ltb}
-use borrow.Author.Tests.{eqb-true, eqb-false, eq-eqb, ne-eqb, ltb-false, le-ltb}
+use borrow.Author.Tests.{eqb-true, eqb-false, eq-eqb, ne-eqb, ltb-true, ltb-false, le-ltb}
 use Rattle.codes.specs.Chips.{pick, differ, distance, bad}
 use Rattle.codes.specs.Packed.{from}
 use Rattle.codes.proofs.Tests.{by-test, not-both}
@@ -103,6 +103,13 @@ pub chips-good : (xs : List ℕ) → ((k : ℕ) → k < length xs → getD xs k 
 unfolding bad
 chips-good [] h = refl
 chips-good (x ∷ xs) h = rw (le-ltb 1 x (h 0 (omega arith))) (chips-good xs (λ k l. h (suc k) (omega arith)))
+
+-- where one is bad, it stands somewhere
+pub bad-at : (xs : List ℕ) → bad xs ≡ true → (k : ℕ) × (k < length xs) × (1 < getD xs k 0)
+unfolding bad
+bad-at [] b = not-both false b refl
+bad-at (x ∷ xs) b =
+    by-test (ltb 1 x) (λ a. (0, omega arith, ltb-true 1 x a)) (λ a. let h = bad-at xs (rw a at b) in (suc (h .0), omega (arith, h .1), h .2))
 
 -- chip k of a window is the list's, at its place
 pub window-chip : (xs : List ℕ) (at size k : ℕ) → k < size → from xs at k ≡ getD (take size (drop at xs)) k 0

@@ -4,6 +4,7 @@
 use mathlib.Core.Path.{_≡_, refl, sym, ap, _∙_}
 use mathlib.Core.Bool.{Bool, true, false}
 use mathlib.Core.List.{List}
+use mathlib.Core.Logic.{_⊎_, inl, inr}
 use Prim.Native.Nat.{ℕ, zero, suc, _*_, _/_, _^_, _≤_, _<_}
 use native.Mathlib.Nat.{pow-suc}
 use native.Mathlib.Omega.{arith}
@@ -77,6 +78,11 @@ module _ (r : Radio) (chips : List ℕ) where
       by-test (bad chips)
       (λ b. absurd (n (sym (rw b at e))))
       (λ b. let q : pick (leb (nearest r chips) (r .limit)) DONE LOST ≡ x = rw b at e in (b, q, rw (b, q)))
+
+  -- of chips it is one of two
+  pub chips-numbers : bad chips ≡ false → (symbolOf r chips .number ≡ DONE) ⊎ (symbolOf r chips .number ≡ LOST)
+  unfolding symbolOf
+  chips-numbers b = rw b (by-pick (λ x. (x ≡ DONE) ⊎ (x ≡ LOST)) (leb (nearest r chips) (r .limit)) DONE LOST (λ _. inl refl) (λ _. inr refl))
 
   -- what is answered 0 is the nearest word
   pub of-done : symbolOf r chips .number ≡ DONE → symbolOf r chips ≡ closeness DONE r chips

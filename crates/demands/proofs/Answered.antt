@@ -7,7 +7,7 @@ use Prim.Native.Nat.{ℕ, suc, _-_, _*_, _/_, _≤_, _<_}
 use native.Mathlib.Nat.{add-mul, mul-le-mul-right, le-add-right}
 use native.Mathlib.Omega.{arith}
 use lib.ListN.{length, getD, take}
-use lib.Seq.{ext-getD, take-all}
+use lib.Seq.{take-all}
 use Rattle.codes.specs.Numbers.{NOROOM}
 use Rattle.codes.specs.Radio.{Radio, Sound}
 use Rattle.codes.specs.declared.Symbol.{Symbol}
@@ -18,12 +18,12 @@ use Rattle.frame.proofs.Count.{raws-below, symbols-long, symbols-same}
 use Rattle.order.specs.Received.{decode, chainStart, polarityOf, received, octetAt}
 use Rattle.order.specs.Order.{refused, done, values, smallestGap, readingFrom}
 use Rattle.demands.specs.Words.{Report, formIn}
-use Rattle.demands.proofs.Back.{received-take, decode-encode}
+use Rattle.demands.proofs.Back.{decode-encode}
 use Rattle.order.proofs.Raw.{per-positive}
 use Rattle.demands.proofs.Path.{rawsTo, Run, ending, run-reading, run-refused}
 use Rattle.order.proofs.Windows.{seen}
 use Rattle.demands.proofs.Framed.{bit-in, report-in, all-long, preamble-in, framed-more, framed-done, framed-short}
-use Rattle.demands.proofs.Stands.{Stands, values-long, values-at, values-take, octet-front, polarity-front}
+use Rattle.demands.proofs.Stands.{Stands, octet-front, polarity-front, values-are, raws-are}
 use Rattle.demands.proofs.Forms.{Proper}
 
 module _ (r : Radio) (S : Sound r) (ws : List (List ℕ)) (form : Form) (F : Proper r form) (report : List ℕ) (P : Report report)
@@ -54,19 +54,9 @@ module _ (r : Radio) (S : Sound r) (ws : List (List ℕ)) (form : Form) (F : Pro
       ap (λ (e : ℕ). decode r e vs) polarity-sent
       ∙ decode-encode r S (form .polarity) all (raws-below r (octetsWith (form .bit) report))
 
-  -- the values read are the frame's symbols
-  values-are : values (take (length vs) (seen r ws)) ≡ vs
-  values-are =
-      let n = values-long r ws (length vs) (T .enough) in
-      ext-getD 0 (values (take (length vs) (seen r ws))) vs n
-      (λ j h. let l : j < length vs = omega arith in values-at r ws (length vs) j (T .enough) l ∙ ap (λ (x : Symbol). x .value) (T .stands j l))
-
-  -- and so are the raw ones
-  raws-are : (j : ℕ) → j < length vs → rawsTo r ws (suc j) ≡ take (suc j) all
-  raws-are j h =
-      ap (received r) (values-take r ws (suc j) (length vs) h ∙ ap (take (suc j)) values-are)
-      ∙ sym (received-take r (suc j) vs)
-      ∙ ap (take (suc j)) raw-again
+  -- the raw symbols read are the frame's
+  raws-in : (j : ℕ) → j < length vs → rawsTo r ws (suc j) ≡ take (suc j) all
+  raws-in j h = raws-are r ws vs count T (suc j) h ∙ ap (take (suc j)) raw-again
 
   headed : 6 * perOctet r ≤ length vs
   headed = omega (arith, symbols-long r form report, add-mul 6 (length report) (perOctet r))
@@ -76,9 +66,9 @@ module _ (r : Radio) (S : Sound r) (ws : List (List ℕ)) (form : Form) (F : Pro
   form-read =
       ap₂ formed
       (ap (λ (x : ℕ). x / 128)
-      (sym (octet-front r ws 5 (length vs) headed) ∙ ap (λ (l : List ℕ). octetAt r 5 (received r l)) values-are ∙ ap (octetAt r 5) raw-again)
+      (sym (octet-front r ws 5 (length vs) headed) ∙ ap (λ (l : List ℕ). octetAt r 5 (received r l)) (values-are r ws vs count T) ∙ ap (octetAt r 5) raw-again)
       ∙ bit-in r S (form .bit) (F .low) report P)
-      (sym (polarity-front r ws (length vs) (omega (arith, long, some))) ∙ ap (polarityOf r) values-are ∙ polarity-sent)
+      (sym (polarity-front r ws (length vs) (omega (arith, long, some))) ∙ ap (polarityOf r) (values-are r ws vs count T) ∙ polarity-sent)
 
   module _ (room : ℕ) (fits : length report ≤ room) (k : ℕ) (e : suc k ≡ length vs) where
     run : Run r room ws 0 k
@@ -87,16 +77,16 @@ module _ (r : Radio) (S : Sound r) (ws : List (List ℕ)) (form : Form) (F : Pro
           from = omega arith;
           inside = omega (arith, T .enough);
           good = λ j u v. ap (λ (x : Symbol). x .number) (T .stands j (omega arith));
-          more = λ j u v. rw (raws-are j (omega arith)) (framed-more r S (form .bit) (F .low) report P room j (λ _. fits) (omega (arith, long)));
-          last = rw (raws-are k (omega arith)) (framed-done r S (form .bit) (F .low) report P room k (λ _. fits) (e ∙ long));
+          more = λ j u v. rw (raws-in j (omega arith)) (framed-more r S (form .bit) (F .low) report P room j (λ _. fits) (omega (arith, long)));
+          last = rw (raws-in k (omega arith)) (framed-done r S (form .bit) (F .low) report P room k (λ _. fits) (e ∙ long));
         }
 
     all-in : rawsTo r ws (suc k) ≡ all
-    all-in = raws-are k (omega arith) ∙ take-all (suc k) all (omega (arith, long))
+    all-in = raws-in k (omega arith) ∙ take-all (suc k) all (omega (arith, long))
 
     ends : ending r ws k ≡ done (length vs) report count (smallestGap (take (length vs) (seen r ws))) (form .polarity)
     ends =
-        let polarity : polarityOf r (values (take (length vs) (seen r ws))) ≡ form .polarity = ap (polarityOf r) values-are ∙ polarity-sent in
+        let polarity : polarityOf r (values (take (length vs) (seen r ws))) ≡ form .polarity = ap (polarityOf r) (values-are r ws vs count T) ∙ polarity-sent in
         rw (all-in, e, report-in r S (form .bit) (F .low) report P, ← T .total, polarity)
 
     answered-at : readingFrom r room [] ws ≡ done (length vs) report count (smallestGap (take (length vs) (seen r ws))) (form .polarity)
@@ -116,6 +106,6 @@ module _ (r : Radio) (S : Sound r) (ws : List (List ℕ)) (form : Form) (F : Pro
       let k = 6 * perOctet r - 1 in
       let e : suc k ≡ 6 * perOctet r = omega (arith, per-positive r S) in
       run-refused r room ws k NOROOM (omega (arith, headed, T .enough)) (λ j l. ap (λ (x : Symbol). x .number) (T .stands j (omega (arith, headed))))
-      (λ j l. rw (raws-are j (omega (arith, headed)))
+      (λ j l. rw (raws-in j (omega (arith, headed)))
       (framed-more r S (form .bit) (F .low) report P room j (λ q. absurd (omega (arith, e))) (omega (arith, headed, long))))
-      (rw (raws-are k (omega (arith, headed))) (framed-short r S (form .bit) (F .low) report P room k short e)) refl refl
+      (rw (raws-in k (omega (arith, headed))) (framed-short r S (form .bit) (F .low) report P room k short e)) refl refl

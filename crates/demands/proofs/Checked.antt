@@ -36,8 +36,9 @@ use Rattle.checked.specs.Profile.{allZero, body, checkOf, checkedAnswer, readCh
 use Rattle.checked.proofs.Tests.{short-check}
 use Rattle.checked.proofs.Passing.{check-wrong, check-zeros, passes-check, check-passes, check-numbers}
 use Rattle.checked.proofs.Passing.{zeros-are, are-zeros, not-zeros, body-not-zeros, with-body}
-use Rattle.demands.specs.Words.{Report, forms, OneOf, apartIn, success}
-use Rattle.demands.specs.Calls.{Call, after, counted, inOrder, tells}
+use Rattle.demands.specs.Words.{Report, forms, OneOf, apartIn, success, tells}
+use Rattle.demands.specs.Refusals.{Refuses}
+use Rattle.demands.specs.Calls.{Call, after, counted, inOrder}
 use Rattle.demands.specs.Profile.{Passes}
 use Rattle.demands.proofs.Demand1.{leaves, read-bad-mode, read-numbers, write-refused, write-numbers}
 use Rattle.demands.proofs.Demand2.{reads-frames, read-back}
@@ -45,7 +46,8 @@ use Rattle.demands.proofs.Demand3.{answer-room, demand-3}
 use Rattle.demands.proofs.Path.{same-parts}
 use Rattle.demands.proofs.Among.{among-pass}
 use Rattle.demands.proofs.Stepped.{steps-read}
-use Rattle.demands.proofs.Reader.{told-done, success-done}
+use Rattle.demands.proofs.Refused.{wrong-number}
+use Rattle.demands.proofs.Reader.{told-done, success-done, reads-refused}
 
 -- ---- the reader, over the plain one
 
@@ -72,6 +74,13 @@ module _ (mode : ℕ) (chips buffer : List ℕ) where
   -- A refusal of the plain reader stays as it is.
   pub checked-refusal : (readOf mode chips buffer .answer .number ≡ DONE → ⊥) → readCheckedOf mode chips buffer ≡ readOf mode chips buffer
   checked-refusal = stays (answerAt mode (length buffer) chips) buffer
+
+  -- So where the reading order refuses, this profile refuses with the same number at that symbol.
+  pub checked-order : known mode ≡ true → (x s : ℕ) → Refuses (radioOf mode) (length buffer) chips x s → readCheckedOf mode chips buffer ≡ tells x s buffer
+  checked-order k x s R =
+      let n = wrong-number (radioOf mode) (length buffer) chips (R .values) x (R .wrong) in
+      let o = reads-refused mode k chips buffer x s n .1 R in
+      checked-refusal (λ d. n (sym (ap (λ (r : Outcome Reading). r .answer .number) o) ∙ d)) ∙ o
 
   module _ (report : List ℕ) (count gap polarity : ℕ) (o : readOf mode chips buffer ≡ success mode buffer report count gap polarity) where
     is-done : answerAt mode (length buffer) chips ≡ done (length (symbols (radioOf mode) report)) report count gap polarity

@@ -5,10 +5,11 @@
 use mathlib.Core.Path.{_≡_, refl}
 use mathlib.Core.Bool.{true, false}
 use mathlib.Core.List.{List, [], _∷_}
-use Prim.Native.Nat.{ℕ}
+use Prim.Native.Nat.{ℕ, _≤_, _<_}
 use native.Mathlib.Omega.{arith}
 use lib.ListN.{length}
 use lib.Dec.{eqb, ltb}
+use borrow.Author.Tests.{lt-ltb, le-ltb}
 use Rattle.codes.specs.Numbers.{DONE, BADMODE, TOOLONG, NOROOM, RUNOUT, NOCHIP, LOST, PREAMBLE, BADSTART}
 use Rattle.codes.specs.Radio.{known, radioOf}
 use Rattle.codes.specs.Chips.{among}
@@ -18,9 +19,9 @@ use Rattle.frame.specs.Frame.{frame}
 use Rattle.frame.specs.Write.{unwritten, wrote, written}
 use Rattle.order.specs.Order.{Answer, refused, done, reading}
 use Rattle.reader.specs.Read.{told, left, answerAt, readOf}
-use Rattle.demands.specs.Words.{Placed}
+use Rattle.demands.specs.Words.{tells, Placed}
 use Rattle.codes.proofs.Tests.{by-pick}
-use Rattle.reader.proofs.Fair.{refusals, Fair, answer-fair}
+use Rattle.reader.proofs.Fair.{refusals, Fair, answer-fair, told-roomy}
 use Rattle.demands.proofs.Placed.{Standing, elsewhere, answer-placed}
 
 -- ---- the reader
@@ -55,6 +56,10 @@ read-numbers mode chips buffer = by-pick P (known mode) _ _ (λ _. go (reading (
     go (refused x place) f = among-more x DONE (BADMODE ∷ refusals) (among-more x BADMODE refusals f)
     go (done place report count gap polarity) f = refl
 
+-- With room for 127 octets it never gives 3.
+pub read-roomy : (mode : ℕ) (chips buffer : List ℕ) → 127 ≤ length buffer → readOf mode chips buffer .answer .number ≡ 3 → ⊥
+read-roomy mode chips buffer h = told-roomy mode (length buffer) h chips
+
 -- And each stands where the reading order lets it: 7 in the preamble, but not at the symbol that
 -- settles a polarity, 8 on the last symbol of the start octet, 3 on that of the length octet.
 pub read-places : (mode : ℕ) (chips buffer : List ℕ)
@@ -76,7 +81,7 @@ read-first chips buffer e z = omega (arith, z, read-places 0 chips buffer .secon
 
 -- A mode that has no radio: its number at place 0, before any symbol.
 pub read-bad-mode : (mode : ℕ) (chips buffer : List ℕ) → known mode ≡ false
-    → readOf mode chips buffer ≡ outcome (record { number = BADMODE; place = 0; n = 0; count = 0; gap = 0; polarity = 0 }) buffer
+    → readOf mode chips buffer ≡ tells 1 0 buffer
 unfolding answerAt told left
 read-bad-mode mode chips buffer k = rw k
 
@@ -94,9 +99,20 @@ written-ways mode report buffer P m t n w =
     (λ _. m)
 
 -- A mode that has no radio: its number, before anything else.
-pub write-bad-mode : (mode : ℕ) (report buffer : List ℕ) → known mode ≡ false → written mode report buffer ≡ unwritten BADMODE buffer
+pub write-bad-mode : (mode : ℕ) (report buffer : List ℕ) → known mode ≡ false → written mode report buffer ≡ outcome (record { number = 1; chips = 0 }) buffer
 unfolding written
 write-bad-mode mode report buffer k = rw k
+
+-- More than 127 octets are 2, whatever the room; fewer, into a buffer shorter than their frame, 3.
+module _ (mode : ℕ) (k : known mode ≡ true) (report buffer : List ℕ) where
+  pub write-too-long : 127 < length report → written mode report buffer ≡ outcome (record { number = 2; chips = 0 }) buffer
+  unfolding written
+  write-too-long h = rw (k, lt-ltb 127 (length report) h)
+
+  pub write-no-room : length report ≤ 127 → length buffer < length (frame (radioOf mode) report)
+      → written mode report buffer ≡ outcome (record { number = 3; chips = 0 }) buffer
+  unfolding written
+  write-no-room h l = rw (k, le-ltb 127 (length report) h, lt-ltb (length buffer) (length (frame (radioOf mode) report)) l)
 
 -- A refused writing: chip count 0, buffer unchanged.
 pub write-refused : (mode : ℕ) (report buffer : List ℕ) → (written mode report buffer .answer .number ≡ DONE → ⊥)

@@ -6,7 +6,7 @@
 use mathlib.Core.Path.{_≡_, refl, sym, ap, ap₂, _∙_, subst}
 use mathlib.Core.Bool.{true, false}
 use mathlib.Core.List.{List, _++_}
-use Prim.Native.Nat.{ℕ, _≤_}
+use Prim.Native.Nat.{ℕ, _≤_, _<_}
 use native.Mathlib.Omega.{arith}
 use lib.ListN.{length, drop, length-append}
 use lib.Seq.{take-length, take-append-seam}
@@ -14,11 +14,15 @@ use borrow.Author.Tests.{le-ltb}
 use Rattle.codes.specs.Chips.{bad}
 use Rattle.codes.specs.Radio.{Radio, Sound, known, radioOf}
 use Rattle.codes.proofs.Facts.{sound}
+use Rattle.frame.specs.declared.Written.{Written}
+use Rattle.frame.specs.Outcome.{Outcome, outcome}
 use Rattle.frame.specs.Frame.{Form, plain, frame, frameWith}
 use Rattle.frame.specs.Write.{written}
+use Rattle.frame.proofs.Count.{bpsk-chips, oqpsk-chips, lowband-chips}
 use Rattle.order.specs.Order.{window}
 use Rattle.reader.specs.Read.{readOf}
 use Rattle.demands.specs.Words.{Report, forms, frames, OneOf, apartIn, Answers, Near, success}
+use Rattle.demands.proofs.Demand1.{write-no-room}
 use Rattle.demands.proofs.Demand3.{demand-3, near-form}
 use Rattle.demands.proofs.Repair.{distance-self}
 use Rattle.demands.proofs.Forms.{in-forms, plain-proper, one-of}
@@ -71,12 +75,37 @@ two-frames r S report p f g k l e =
     sym (near-form r S (frameWith r f report) report 0 p f k n)
     ∙ near-form r S (frameWith r f report) report 0 p g l (subst (λ (h : List ℕ). Near r (frameWith r f report) h 0) e n)
 
--- what the writer leaves in a buffer that the frame fits: the frame, then the later bytes
+-- The writer, of a report of at most 127 octets into a buffer that its frame fits: the number of
+-- its chips, the frame at the front, and the later bytes as they were.
 pub written-frame : (mode : ℕ) → known mode ≡ true → (report chips : List ℕ) → length report ≤ 127 → length (frame (radioOf mode) report) ≤ length chips
-    → written mode report chips .buffer ≡ frame (radioOf mode) report ++ drop (length (frame (radioOf mode) report)) chips
+    → written mode report chips
+    ≡ outcome (record { number = 0; chips = length (frame (radioOf mode) report) })
+    (frame (radioOf mode) report ++ drop (length (frame (radioOf mode) report)) chips)
 unfolding written
 written-frame mode k report chips l h =
     rw (k, le-ltb 127 (length report) l, le-ltb (length chips) (length (frame (radioOf mode) report)) h)
+
+-- The longest report in numerals: 15,960, 8,512 and 4,256 chips in modes 0, 1 and 2, and into a
+-- buffer that is shorter 3.
+module _ (report chips : List ℕ) (e : length report ≡ 127) where
+  abbrev Longest : ℕ → ℕ → Type 0
+  Longest mode m =
+      (m ≤ length chips → written mode report chips .answer ≡ record { number = 0; chips = m })
+      × (length chips < m → written mode report chips ≡ outcome (record { number = 3; chips = 0 }) chips)
+
+  longest : (mode : ℕ) → known mode ≡ true → (m : ℕ) → length (frame (radioOf mode) report) ≡ m → Longest mode m
+  longest mode k m l = (
+    λ h. ap (λ (o : Outcome Written). o .answer) (written-frame mode k report chips (omega (arith, e)) (omega (arith, l)))
+        ∙ ap (λ (n : ℕ). record { number = 0; chips = n }) l,
+    λ h. write-no-room mode k report chips (omega (arith, e)) (omega (arith, l)),
+  )
+
+  pub written-longest : Longest 0 15960 × Longest 1 8512 × Longest 2 4256
+  written-longest = (
+    longest 0 refl 15960 (bpsk-chips plain report ∙ omega (arith, e)),
+    longest 1 refl 8512 (oqpsk-chips plain report ∙ omega (arith, e)),
+    longest 2 refl 4256 (lowband-chips plain report ∙ omega (arith, e)),
+  )
 
 -- With room for both, what the writer wrote the reader reads.
 pub read-back : (mode : ℕ) → known mode ≡ true → (report chips buffer : List ℕ) → Report report → length (frame (radioOf mode) report) ≤ length chips
@@ -84,5 +113,5 @@ pub read-back : (mode : ℕ) → known mode ≡ true → (report chips buffer : 
     → readOf mode (written mode report chips .buffer) buffer ≡ success mode buffer report 0 (apartIn mode) 0
 read-back mode k report chips buffer p h l =
     let f = frame (radioOf mode) report in
-    ap (λ (xs : List ℕ). readOf mode xs buffer) (written-frame mode k report chips (p .short) h)
+    ap (λ (o : Outcome Written). readOf mode (o .buffer) buffer) (written-frame mode k report chips (p .short) h)
     ∙ reads-frames mode k report p plain (in-forms (radioOf mode) plain (plain-proper (radioOf mode))) (drop (length f) chips) buffer l

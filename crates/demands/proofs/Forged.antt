@@ -1,34 +1,42 @@
 -- Which records are answered 34: of those that are open or ended well just the ones that fail one
 -- of the document's four tests, in the words of frames; and none that start gave, carried on by
 -- push and finish alone (take never changes it). And what finish and take make of every record, and
--- push of one that takes no symbol. Assumes nothing.
+-- which number push answers. Assumes nothing.
 use mathlib.Core.Path.{_≡_, refl, sym, ap, _∙_}
 use mathlib.Core.Bool.{true, false, not}
 use mathlib.Core.List.{List}
 use mathlib.Core.Logic.{_⊎_, inl, inr, _↔_}
-use Prim.Native.Nat.{ℕ, _+_, _*_, _%_, _≤_}
+use Prim.Native.Nat.{ℕ, _+_, _*_, _%_, _≤_, _<_}
 use native.Mathlib.Omega.{arith}
 use lib.Dec.{eqb, ltb}
 use lib.ListN.{length, take, replicate, length-replicate}
-use borrow.Author.Tests.{eqb-false, ne-eqb, ltb-true, ltb-false, leb-true, le-leb, not-true}
+use borrow.Author.Tests.{eqb-false, eq-eqb, ne-eqb, ltb-true, ltb-false, leb-true, le-leb, not-true}
 use Rattle.codes.specs.Numbers.{DONE, RUNOUT, ENDED, NOTENDED, MORE, FORGED}
-use Rattle.codes.specs.Chips.{pick}
-use Rattle.codes.specs.Radio.{known, radioOf}
+use Rattle.codes.specs.Chips.{pick, distance, bad}
+use Rattle.codes.specs.Radio.{Radio, known, radioOf, word}
 use Rattle.codes.specs.Symbol.{symbolOf}
+use Rattle.codes.specs.declared.Symbol.{Symbol}
+use Rattle.codes.proofs.Facts.{sound}
+use Rattle.codes.proofs.Unique.{some-words, nochip-of, lost-of}
 use Rattle.codes.proofs.Tests.{by-test, not-both}
 use Rattle.frame.specs.Frame.{perOctet, plain, symbols}
 use Rattle.frame.proofs.Count.{symbols-long}
 use Rattle.order.specs.Order.{Answer, done}
+use Rattle.order.specs.Taking.{stopped}
+use Rattle.order.proofs.Steps.{follow-refused, kept-stops}
 use Rattle.reader.specs.Read.{told, left, answered}
 use Rattle.receiver.specs.declared.Receiver.{Receiver}
 use Rattle.receiver.specs.declared.Step.{Step}
-use Rattle.receiver.specs.Record.{step, startOf, total, forged, tookSymbol, pushOf, endedWith, finishOf, takeOf}
-use Rattle.receiver.proofs.Ways.{number-of-symbols, forged-no-radio, forged-long, forged-count, last-test, forged-open, forged-ended, forged-refused}
-use Rattle.receiver.proofs.Ways.{push-forged, push-ended, finish-forged, finish-ended, finish-open, takes-forged, takes-open, takes-refused, takes-done}
-use Rattle.demands.specs.Calls.{Call, pushing, finishing, taking, called, after, tells, Idle}
+use Rattle.receiver.specs.Record.{step, startOf, total, forged, handOf, held, withHand, tookSymbol, pushOf, endedWith, finishOf, takeOf}
+use Rattle.receiver.proofs.Ways.{number-of-symbols, forged-no-radio, forged-long, forged-count, last-test}
+use Rattle.receiver.proofs.Ways.{forged-open, forged-ended, forged-refused, passed-known}
+use Rattle.receiver.proofs.Ways.{push-forged, push-ended, finish-forged, finish-ended, finish-open, takes-forged, takes-open}
+use Rattle.receiver.proofs.Ways.{takes-refused, takes-short, takes-done}
+use Rattle.demands.specs.Words.{tells}
+use Rattle.demands.specs.Calls.{Call, pushing, finishing, taking, called, after, Idle}
 use Rattle.demands.specs.Calls.{Faulty, no-radio, too-long, too-many-repaired, misfits, FaultyOpen, FaultyWell}
 use Rattle.demands.proofs.Among.{among-pass}
-use Rattle.demands.proofs.Given.{ofSymbol, push-ways, took-given, finish-ways, takes-ways}
+use Rattle.demands.proofs.Given.{ofSymbol, found, followed-read, push-ways, took-given, finish-ways, takes-ways}
 use Rattle.demands.proofs.Made.{holds-no, passes, made}
 
 -- ---- 34 is the number of a forged record, whatever is called
@@ -146,6 +154,46 @@ module _ (c : Receiver) where
         let f = passed c (FaultyOpen c) (open-tested c o) n in
         (sym (finish-open c f o), λ buffer. ap (λ (a : Answer). answered a buffer) (sym (takes-open c (length buffer) f o)))
 
+    -- Push to it, whatever else it holds: a part that isn't exactly one symbol long gives it back
+    -- as it was, with 11.
+    pub open-part : (FaultyOpen c → ⊥) → (part : List ℕ) → (length part ≡ radioOf (c .mode) .size → ⊥) → pushOf c part ≡ step 11 c
+    unfolding pushOf
+    open-part n part l =
+        rw (passed c (FaultyOpen c) (open-tested c o) n, eq-eqb (c .ended) MORE o, ne-eqb (length part) (radioOf (c .mode) .size) l)
+
+    -- One that is: a byte above 1 is 5, and chips farther than the limit from every word are 6, the
+    -- record as it was but for that; of chips that are read rules 4 to 6 give the number, over what
+    -- the record holds.
+    module _ (n : FaultyOpen c → ⊥) (part : List ℕ) (l : length part ≡ radioOf (c .mode) .size) where
+      abbrev r : Radio
+      r = radioOf (c .mode)
+
+      f : forged c ≡ false
+      f = passed c (FaultyOpen c) (open-tested c o) n
+
+      symbol-pushed : pushOf c part ≡ tookSymbol c (symbolOf r part)
+      unfolding pushOf
+      symbol-pushed = rw (f, eq-eqb (c .ended) MORE o, eq-eqb (length part) (r .size) l)
+
+      refused-with : (x : ℕ) → symbolOf r part .number ≡ x → eqb x MORE ≡ false → eqb x DONE ≡ false → pushOf c part ≡ step x (endedWith x c)
+      refused-with x e m d =
+          symbol-pushed
+          ∙ ap (withHand c)
+          (sym (follow-refused (c .mode) (handOf c) (symbolOf r part) (passed-known c f (inl o)) (λ z. eqb-false x DONE d (sym e ∙ z)))
+          ∙ ap (λ (z : ℕ). stopped z (handOf c)) e)
+          ∙ ap (λ (os : List ℕ). step x (held (c .mode) (stopped x (handOf c)) os))
+          (kept-stops (c .mode) (stopped x (handOf c)) (c .octets) (eqb-false x MORE m) (eqb-false x DONE d))
+
+      pub open-no-chip : bad part ≡ true → pushOf c part ≡ step 5 (endedWith 5 c)
+      open-no-chip b = refused-with 5 (ap (λ (x : Symbol). x .number) (nochip-of r part b)) refl refl
+
+      pub open-lost : bad part ≡ false → ((v : ℕ) → v < length (r .words) → r .limit < distance part (word r v)) → pushOf c part ≡ step 6 (endedWith 6 c)
+      open-lost b far =
+          refused-with 6 (ap (λ (x : Symbol). x .number) (lost-of r part (some-words r (sound (c .mode))) (record { chip = b; far = far }))) refl refl
+
+      pub open-read : symbolOf r part .number ≡ 0 → pushOf c part .number ≡ found r (handOf c) (symbolOf r part)
+      open-read e = ap (λ (s : Step). s .number) symbol-pushed ∙ followed-read (c .mode) (passed-known c f (inl o)) (handOf c) part e
+
   -- A record that ended well and fails a test likewise.
   module _ (d : c .ended ≡ DONE) where
     pub well-forged : (x : Call) → (called c x .number ≡ FORGED) ↔ FaultyWell c
@@ -168,6 +216,12 @@ module _ (c : Receiver) where
         (done (c .taken) (take (c .length) (c .octets)) (c .count) (c .gap) (pick (radioOf (c .mode) .chained) (c .polarity % 2) 0)) buffer
     well-taken n l buffer h =
         ap (λ (a : Answer). answered a buffer) (sym (takes-done c (length buffer) (passed c (FaultyWell c) (well-tested c d) n) d l h))
+
+    -- Into a buffer with less it is 3, at its number of symbols, with nothing stored.
+    pub well-short : (FaultyWell c → ⊥) → length (c .octets) ≡ 127 → (buffer : List ℕ) → length buffer < c .length → takeOf c buffer ≡ tells 3 (c .taken) buffer
+    unfolding told left
+    well-short n l buffer h =
+        ap (λ (a : Answer). answered a buffer) (sym (takes-short c (length buffer) (passed c (FaultyWell c) (well-tested c d) n) d l h))
 
   -- A record that a refusal ended is never tested: push and finish give it back with 10, and take
   -- repeats its number and place.

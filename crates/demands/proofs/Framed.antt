@@ -1,15 +1,13 @@
 -- The raw symbols of one of a report's frames, at each of them what the rules say, and the report
 -- that is in them. For any sound radio. Assumes nothing.
 use mathlib.Core.Path.{_≡_, refl, sym, ap, _∙_}
-use mathlib.Core.Bool.{not}
 use mathlib.Core.List.{List, [], _∷_, _++_}
 use Prim.Native.Nat.{ℕ, suc, _+_, _*_, _/_, _%_, _^_, _≤_, _<_}
 use native.Mathlib.Nat.{add-mul}
 use native.Mathlib.Omega.{arith}
 use lib.ListN.{length, getD, take, drop}
 use lib.Seq.{getD-take}
-use lib.Dec.{eqb, ltb}
-use borrow.Author.Tests.{eq-eqb, ne-eqb, eqb-true, ltb-true, lt-ltb}
+use borrow.Author.Tests.{eq-eqb, ne-eqb}
 use Rattle.codes.specs.Numbers.{DONE, NOROOM, MORE}
 use Rattle.codes.specs.Radio.{Radio, Sound}
 use Rattle.frame.specs.Frame.{startOctet, octetsWith, perOctet, rawOf, raws}
@@ -17,10 +15,10 @@ use Rattle.frame.proofs.Count.{digits-nought, raws-long}
 use Rattle.frame.proofs.Below.{Below, below-append, at-below, below-at}
 use Rattle.frame.proofs.Parts.{before}
 use Rattle.order.specs.Received.{octetAt, octetsFrom}
-use Rattle.order.specs.Order.{ends, rules, lengthIn, verdict, reportIn}
+use Rattle.order.specs.Order.{lengthIn, verdict, reportIn}
 use Rattle.demands.specs.Words.{Report}
 use Rattle.demands.proofs.Octet.{octets-raws, octet-take}
-use Rattle.order.proofs.Rules.{neither, Clear, clear-rules}
+use Rattle.order.proofs.Rules.{Clear, clear-rules, wrong-3}
 
 -- raw symbols of octets that are 0 are 0
 nought : (r : Radio) → Below 1 (raws r (0 ∷ 0 ∷ 0 ∷ 0 ∷ []))
@@ -29,18 +27,6 @@ nought r = z _ (z _ (z _ (z [] tt)))
   where
     z : (bs : List ℕ) → Below 1 bs → Below 1 (rawOf r 0 ++ bs)
     z bs p = below-append 1 (rawOf r 0) bs (digits-nought (perOctet r) (2 ^ r .bits)) p
-
--- where nothing else is wrong, too little room is 3 on the last symbol of the length octet
-rules-room-3 : (per room s raw start n : ℕ) → (s < 4 * per → raw ≡ 0) → (suc s ≡ 5 * per → start ≡ startOctet) → suc s ≡ 6 * per → room < n
-    → rules per room s raw start n ≡ NOROOM
-unfolding rules
-rules-room-3 per room s raw start n p b e l =
-    rw (
-      neither (ltb s (4 * per)) (not (eqb raw 0)) (λ t. rw (eq-eqb raw 0 (p (ltb-true _ _ t)))),
-      neither (ends per 4 s) (not (eqb start startOctet)) (λ t. rw (eq-eqb start startOctet (b (eqb-true _ _ t)))),
-      eq-eqb (suc s) (6 * per) e,
-      lt-ltb room n l,
-    )
 
 module _ (r : Radio) (S : Sound r) (bit : ℕ) (low : bit ≤ 1) (report : List ℕ) (R : Report report) where
   abbrev all : List ℕ
@@ -104,7 +90,7 @@ module _ (r : Radio) (S : Sound r) (bit : ℕ) (low : bit ≤ 1) (report : List 
     -- with too little room the last symbol of the length octet is refused with 3
     pub framed-short : room < length report → suc s ≡ 6 * perOctet r → verdict r room s upto ≡ NOROOM
     framed-short l e =
-        rules-room-3 (perOctet r) room s _ _ _ raw-clear start-clear e (omega (arith, l, length-upto (omega arith)))
+        wrong-3 (perOctet r) room s _ _ _ raw-clear start-clear e (omega (arith, l, length-upto (omega arith)))
 
     module _ (fits : suc s ≡ 6 * perOctet r → length report ≤ room) where
       clear : Clear (perOctet r) room s (getD upto s 0) (octetAt r 4 upto) (lengthIn r upto)

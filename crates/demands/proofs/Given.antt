@@ -1,28 +1,31 @@
 -- The numbers that the stepping receiver's calls give back: those that document 01's table has for
 -- each. What a push does to the record's last symbol and polarity. And what a refusal leaves.
 -- Assumes nothing.
-use mathlib.Core.Path.{_≡_, refl, ap, _∙_}
+use mathlib.Core.Path.{_≡_, refl, sym, ap, _∙_}
 use mathlib.Core.Bool.{true, false, not}
 use mathlib.Core.List.{List, [], _∷_}
 use mathlib.Core.Logic.{_⊎_, inl, inr, ⊎-elim}
-use Prim.Native.Nat.{ℕ, _+_, _*_, _≤_, _<_}
+use Prim.Native.Nat.{ℕ, suc, _+_, _*_, _%_, _^_, _≤_, _<_}
+use native.Mathlib.Nat.{mod-eq-of-lt}
 use native.Mathlib.Omega.{arith}
-use lib.ListN.{length}
-use lib.Dec.{eqb, ltb}
-use borrow.Author.Tests.{eq-eqb, ne-eqb, eqb-true, eqb-false, not-false}
-use Rattle.codes.specs.Numbers.{DONE, BADMODE, NOROOM, RUNOUT, NOCHIP, LOST, PREAMBLE, BADSTART, ENDED, BADPART, NOTENDED, MORE, FORGED}
-use Rattle.codes.specs.Chips.{among}
+use lib.ListN.{length, replicate}
+use lib.Dec.{eqb, leb, ltb}
+use borrow.Author.Tests.{eq-eqb, ne-eqb, eqb-true, eqb-false, leb-true, not-false}
+use Rattle.codes.specs.Numbers.{DONE, NOROOM, RUNOUT, NOCHIP, LOST, PREAMBLE, BADSTART, ENDED, BADPART, NOTENDED, MORE, FORGED}
+use Rattle.codes.specs.Chips.{pick, among, bad}
 use Rattle.codes.specs.Radio.{Radio, known, radioOf, bpsk}
-use Rattle.codes.specs.Symbol.{symbolOf}
+use Rattle.codes.specs.Symbol.{lesser, symbolOf, gapOf}
 use Rattle.codes.specs.declared.Symbol.{Symbol}
 use Rattle.codes.proofs.Tests.{by-pick, by-test, not-both}
-use Rattle.codes.proofs.Unique.{symbol-numbers}
-use Rattle.frame.specs.Frame.{startOctet, perOctet}
+use Rattle.codes.proofs.Facts.{sound}
+use Rattle.codes.proofs.Modes.{row-test}
+use Rattle.codes.proofs.Unique.{closeness-order, symbol-numbers}
+use Rattle.frame.specs.Frame.{perOctet}
 use Rattle.order.specs.declared.Hand.{Hand}
-use Rattle.order.specs.Order.{Answer, refused, both, ends, rules}
+use Rattle.order.specs.Order.{Answer, refused, ends, rules}
 use Rattle.reader.specs.Read.{told}
-use Rattle.order.specs.Taking.{stopped, shifted, lengthAfter, moved, rawNext, polarityNext, advanced, followed}
-use Rattle.order.proofs.Rules.{past-first, roomy, length-few, preamble-rules}
+use Rattle.order.specs.Taking.{stopped, shifted, lengthAfter, gapAt, moved, rawNext, polarityNext, advanced, followed}
+use Rattle.order.proofs.Rules.{past-first, length-few, preamble-rules, rules-ways}
 use Rattle.order.proofs.Steps.{followed-stops, kept-stops}
 use Rattle.receiver.specs.declared.Receiver.{Receiver}
 use Rattle.receiver.specs.declared.Step.{Step}
@@ -43,15 +46,23 @@ takes-none x m d = ⊎-elim (λ e. absurd (eqb-false x MORE m e)) (λ e. absurd 
 
 -- with room for every report 3 is none of them
 rules-given : (per s raw start n : ℕ) → (ends per 5 s ≡ true → n ≤ 127) → among (rules per 127 s raw start n) ofSymbol ≡ true
-unfolding rules
 rules-given per s raw start n q =
-    by-pick P (both (ltb s (4 * per)) (not (eqb raw 0))) _ _ (λ _. refl)
-    (λ _. by-pick P (both (ends per 4 s) (not (eqb start startOctet))) _ _ (λ _. refl)
-    (λ _. by-pick P (both (ends per 5 s) (ltb 127 n)) _ _ (λ t. not-both _ t (roomy per s n q))
-    (λ _. by-pick P (ends per (5 + n) s) _ _ (λ _. refl) (λ _. refl))))
+    rules-ways per 127 s raw start n P (λ _ _. refl) (λ _ _. refl) (λ e l. absurd (omega (arith, q (eq-eqb (suc s) (6 * per) e))))
+    (λ _. by-pick P (eqb (suc s) ((6 + n) * per)) DONE MORE (λ _. refl) (λ _. refl))
   where
     P : ℕ → Type 0
     P z = among z ofSymbol ≡ true
+
+-- The raw symbol of a value is, without a chain, that value, and in mode 0 its sum with the last
+-- one held, at the first symbol 0; whatever else the hand holds.
+pub raw-plain : (r : Radio) → r .chained ≡ false → (h : Hand) (x : Symbol) → x .value < 2 ^ r .bits → rawNext r h x ≡ x .value
+raw-plain r c h x l = rw (c, mod-eq-of-lt l)
+
+pub raw-chained : (h : Hand) (x : Symbol) → (h .taken ≡ 0 → ⊥) → rawNext bpsk h x ≡ (h .last + x .value) % 2
+raw-chained h x n = rw (ne-eqb (h .taken) 0 n) (omega arith)
+
+pub raw-first : (h : Hand) (x : Symbol) → h .taken ≡ 0 → rawNext bpsk h x ≡ 0
+raw-first h x t = rw t (omega arith)
 
 -- what is worked out of a symbol that is read
 module _ (r : Radio) (h : Hand) (x : Symbol) where
@@ -61,7 +72,7 @@ module _ (r : Radio) (h : Hand) (x : Symbol) where
   abbrev n : ℕ
   n = lengthAfter (perOctet r) (h .taken) (h .length) octet
 
-  abbrev found : ℕ
+  abbrev pub found : ℕ
   found = rules (perOctet r) 127 (h .taken) (rawNext r h x) octet n
 
   abbrev onto : Hand
@@ -92,11 +103,18 @@ module _ (mode : ℕ) (k : known mode ≡ true) (h : Hand) (w : List ℕ) where
       (length-few (perOctet r) (h .taken) (h .length) (octet r h x)) in
       followed-ways (λ (g : Hand). among (g .number) ofSymbol ≡ true) (λ _. given) (λ _ _. given) refl refl
 
-  -- Where it is taken its value is the last. The polarity stays, but at the first symbol of a
+  -- one that is read is taken by rules 4 to 6
+  pub followed-read : x .number ≡ DONE → followed mode h x .number ≡ found r h x
+  unfolding followed advanced
+  followed-read d =
+      rw (k, eq-eqb (x .number) DONE d)
+      (by-test (eqb (found r h x) MORE) (λ t. rw t) (λ t. rw t (by-test (eqb (found r h x) DONE) (λ u. rw u) (λ u. rw u))))
+
+  -- Where it is taken, the hand is moved on. The polarity stays, but at the first symbol of a
   -- chain.
-  followed-last : Taken (followed mode h x .number) → followed mode h x .last ≡ x .value
-  followed-last =
-      followed-ways (λ (g : Hand). Taken (g .number) → g .last ≡ x .value) (λ _ _. refl)
+  followed-onto : Taken (followed mode h x .number) → followed mode h x ≡ onto r h x
+  followed-onto =
+      followed-ways (λ (g : Hand). Taken (g .number) → g ≡ onto r h x) (λ _ _. refl)
       (λ m d. takes-none (found r h x) (ne-eqb _ MORE m) (ne-eqb _ DONE d)) (takes-none NOCHIP refl refl) (takes-none LOST refl refl)
 
   followed-keeps : (r .chained ≡ true → h .taken ≡ 0 → ⊥) → followed mode h x .polarity ≡ h .polarity
@@ -109,7 +127,7 @@ module _ (h : Hand) (t : h .taken ≡ 0) (w : List ℕ) where
   first-more : found bpsk h (symbolOf bpsk w) ≡ MORE
   first-more =
       let v = symbolOf bpsk w in
-      let nought : rawNext bpsk h v ≡ 0 = rw t (omega arith) in
+      let nought = raw-first h v t in
       preamble-rules 8 (h .taken) (omega (arith, t)) (rawNext bpsk h v) (octet bpsk h v) (n bpsk h v) ∙ rw (eq-eqb (rawNext bpsk h v) 0 nought)
 
   followed-first : followed 0 h (symbolOf bpsk w) .number ≡ PREAMBLE → ⊥
@@ -148,12 +166,56 @@ push-numbers c part =
     given : List ℕ
     given = DONE ∷ NOCHIP ∷ LOST ∷ PREAMBLE ∷ BADSTART ∷ ENDED ∷ BADPART ∷ MORE ∷ FORGED ∷ []
 
--- Where push takes a symbol, its value is the record's last one.
-pub push-last : (c : Receiver) (part : List ℕ) → Taken (pushOf c part .number) → pushOf c part .receiver .last ≡ symbolOf (radioOf (c .mode)) part .value
-push-last c part =
-    push-ways c part (λ (s : Step). Taken (s .number) → s .receiver .last ≡ symbolOf (radioOf (c .mode)) part .value)
-    (λ _. takes-none FORGED refl refl) (takes-none ENDED refl refl) (takes-none BADPART refl refl)
-    (λ f o. followed-last (c .mode) (passed-known c f (inl o)) (handOf c) part)
+-- the code's gap of a symbol, which would wrap, is its gap
+symbol-gap : (mode : ℕ) (w : List ℕ) → gapAt (symbolOf (radioOf mode) w) ≡ gapOf (symbolOf (radioOf mode) w)
+unfolding symbolOf
+symbol-gap mode w =
+    let r = radioOf mode in
+    let o = closeness-order r (sound mode) w in
+    let s : r .size ≤ 32 = leb-true _ _ (row-test (λ r. leb (r .size) 32) refl mode) in
+    by-pick (λ (x : Symbol). gapAt x ≡ gapOf x) (bad w) _ _ (λ _. refl) (λ _. omega (arith, o .0, o .1, s))
+
+-- Where push takes a symbol, of any record: it is counted, its value is the last one, its distance
+-- is added to the count, its gap held where that is smaller; n is the low seven bits of the octet
+-- in hand after the last symbol of the length octet, else as it was. (A record's numbers have 32
+-- bits.)
+module _ (c : Receiver) (part : List ℕ) where
+  abbrev pushed : Symbol
+  pushed = symbolOf (radioOf (c .mode)) part
+
+  push-onto : Taken (pushOf c part .number) → handOf (pushOf c part .receiver) ≡ onto (radioOf (c .mode)) (handOf c) pushed
+  push-onto =
+      push-ways c part (λ (s : Step). Taken (s .number) → handOf (s .receiver) ≡ onto (radioOf (c .mode)) (handOf c) pushed)
+      (λ _. takes-none FORGED refl refl) (takes-none ENDED refl refl) (takes-none BADPART refl refl)
+      (λ f o. followed-onto (c .mode) (passed-known c f (inl o)) (handOf c) part)
+
+  module _ (t : Taken (pushOf c part .number)) where
+    pub push-taken : pushOf c part .receiver .taken ≡ (c .taken + 1) % 2 ^ 32
+    push-taken = ap (λ (h : Hand). h .taken) (push-onto t)
+
+    pub push-last : pushOf c part .receiver .last ≡ pushed .value
+    push-last = ap (λ (h : Hand). h .last) (push-onto t)
+
+    pub push-count : pushOf c part .receiver .count ≡ (c .count + pushed .distance) % 2 ^ 32
+    push-count = ap (λ (h : Hand). h .count) (push-onto t)
+
+    pub push-gap : pushOf c part .receiver .gap ≡ lesser (gapOf pushed) (c .gap)
+    push-gap = ap (λ (h : Hand). h .gap) (push-onto t) ∙ ap (λ (g : ℕ). lesser g (c .gap)) (symbol-gap (c .mode) part)
+
+    pub push-length : pushOf c part .receiver .length
+        ≡ pick (eqb (suc (c .taken)) (6 * perOctet (radioOf (c .mode)))) (pushOf c part .receiver .octet % 128) (c .length)
+    push-length =
+        ap (λ (h : Hand). h .length) (push-onto t)
+        ∙ ap (λ (h : Hand). pick (eqb (suc (c .taken)) (6 * perOctet (radioOf (c .mode)))) (h .octet % 128) (c .length)) (sym (push-onto t))
+
+  -- No push changes the mode; and one that takes none counts none.
+  pub push-mode : pushOf c part .receiver .mode ≡ c .mode
+  push-mode = push-ways c part (λ (s : Step). s .receiver .mode ≡ c .mode) (λ _. refl) refl refl (λ _ _. refl)
+
+  pub push-stays : (Taken (pushOf c part .number) → ⊥) → pushOf c part .receiver .taken ≡ c .taken
+  push-stays =
+      push-ways c part (λ (s : Step). (Taken (s .number) → ⊥) → s .receiver .taken ≡ c .taken) (λ _ _. refl) (λ _. refl) (λ _. refl)
+      (λ f o n. ap (λ (h : Hand). h .taken) (followed-stops (c .mode) (handOf c) pushed (λ m. n (inl m)) (λ d. n (inr d))))
 
 -- The first symbol of a mode 0 record, whatever else that holds: no part gives 7, and where a
 -- symbol is taken the polarity is what it reads as.
@@ -199,10 +261,24 @@ push-tells c part =
     ⊎ ((among (s .number) ofSymbol ≡ true) × (s .receiver .ended ≡ s .number)))
     (λ _. inl (refl, refl)) (inl (refl, refl)) (inl (refl, refl)) (λ f o. inr (took-given c part f o, refl))
 
--- Start gives back one of these.
-pub start-numbers : (mode : ℕ) → among (startOf mode .number) (BADMODE ∷ MORE ∷ []) ≡ true
+-- Start gives 13 for a mode that has a radio and else 1, and the record holds that number: it is
+-- open, or has ended so at place 0. It holds the mode, whatever that is, the greatest number of 32
+-- bits for the gap, and zeros.
+pub start-tells : (mode x : ℕ) → x ≡ pick (known mode) 13 1
+    → startOf mode ≡ step x (record {
+      mode = mode;
+      ended = x;
+      taken = 0;
+      length = 0;
+      count = 0;
+      last = 0;
+      octet = 0;
+      gap = 4294967295;
+      polarity = 0;
+      octets = replicate 127 0;
+    })
 unfolding startOf
-start-numbers mode = by-pick (λ (s : Step). among (s .number) (BADMODE ∷ MORE ∷ []) ≡ true) (known mode) _ _ (λ _. refl) (λ _. refl)
+start-tells mode x e = by-test (known mode) (λ k. rw (e, k)) (λ k. rw (e, k))
 
 -- what is true of finish's ways
 pub finish-ways : (c : Receiver) (P : Step → Type 0) → (forged c ≡ true → P (step FORGED c))

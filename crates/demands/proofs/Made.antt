@@ -6,7 +6,7 @@ use mathlib.Core.Path.{_≡_, refl, sym, _∙_}
 use mathlib.Core.Bool.{true, false}
 use mathlib.Core.List.{List, [], _∷_}
 use mathlib.Core.Logic.{⊎-elim}
-use Prim.Native.Nat.{ℕ, _<_}
+use Prim.Native.Nat.{ℕ, _*_, _<_}
 use native.Mathlib.Omega.{arith}
 use lib.Dec.{eqb}
 use lib.ListN.{length}
@@ -134,3 +134,13 @@ made mode xs = carried mode (startOf mode .receiver) (starts mode) xs
 -- so no record that the calls make holds 7 at symbol 0 in mode 0
 pub made-first : (xs : List Call) → after (startOf 0 .receiver) xs .ended ≡ PREAMBLE → 0 < after (startOf 0 .receiver) xs .taken
 made-first xs = made 0 xs .second refl
+
+-- An open record that the calls make holds the length 0 until the length octet is read.
+pub made-unread : (mode : ℕ) (xs : List Call) → let c = after (startOf mode .receiver) xs in
+    c .ended ≡ MORE → c .taken < 6 * perOctet (radioOf mode) → c .length ≡ 0
+made-unread mode xs = go (after (startOf mode .receiver) xs) (made mode xs) (made mode xs .honest)
+  where
+    go : (c : Receiver) → Made mode c → Honest c → c .ended ≡ MORE → c .taken < 6 * perOctet (radioOf mode) → c .length ≡ 0
+    go c M (wanting k before C O) o l = C .early (rw (M .own) (omega (arith, C .taken, l)))
+    go c M (complete k d F) o l = absurd (omega (arith, d, o))
+    go c M (ended t) o l = absurd (not-ending (c .ended) MORE t refl o)

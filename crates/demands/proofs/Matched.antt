@@ -12,7 +12,7 @@ use borrow.Author.Tests.{eq-eqb, ne-eqb}
 use Rattle.codes.specs.Numbers.{DONE, BADMODE, NOCHIP, LOST, BADPART}
 use Rattle.codes.specs.Chips.{pick, among, bad}
 use Rattle.codes.specs.Radio.{Radio, Sound, known, radioOf}
-use Rattle.codes.specs.Symbol.{nearest, nearestWord, refused, closeness, symbolOf, matchOf}
+use Rattle.codes.specs.Symbol.{nearest, nearestWord, closeness, symbolOf, matchOf}
 use Rattle.codes.specs.declared.Symbol.{Symbol}
 use Rattle.codes.proofs.Tests.{by-pick}
 use Rattle.codes.proofs.Leasts.{nearest-le, nearest-at, nearest-first, but-le, but-at}
@@ -33,15 +33,19 @@ closeness-says r S chips x =
       other = but-at r chips (nearestWord r chips) (w .0) (two-words r S);
     }
 
+-- a number, with zeros
+abbrev nothing : ℕ → Symbol
+nothing x = record { number = x; value = 0; distance = 0; next = 0 }
+
 module _ (mode : ℕ) (part : List ℕ) where
   -- A mode that has no radio is 1, whatever the part.
-  pub match-bad-mode : known mode ≡ false → matchOf mode part ≡ refused BADMODE
+  pub match-bad-mode : known mode ≡ false → matchOf mode part ≡ nothing 1
   unfolding matchOf
   match-bad-mode k = rw k
 
   module _ (k : known mode ≡ true) where
     -- A part that isn't exactly one symbol long is 11, whatever its bytes.
-    pub match-bad-part : (length part ≡ radioOf mode .size → ⊥) → matchOf mode part ≡ refused BADPART
+    pub match-bad-part : (length part ≡ radioOf mode .size → ⊥) → matchOf mode part ≡ nothing 11
     unfolding matchOf
     match-bad-part n = rw (k, ne-eqb (length part) (radioOf mode .size) n)
 
@@ -51,7 +55,7 @@ module _ (mode : ℕ) (part : List ℕ) where
       matched = rw (k, eq-eqb (length part) (radioOf mode .size) l)
 
       -- A byte above 1 in one is 5.
-      pub match-no-chip : bad part ≡ true → matchOf mode part ≡ refused NOCHIP
+      pub match-no-chip : bad part ≡ true → matchOf mode part ≡ nothing 5
       match-no-chip b = matched ∙ nochip-of (radioOf mode) part b
 
       -- Of chips the answer is 0 where the nearest word is within the limit, else 6, and says which

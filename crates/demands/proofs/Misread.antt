@@ -7,38 +7,33 @@ use mathlib.Core.Path.{_≡_, refl, sym, ap, ap₂, _∙_}
 use mathlib.Core.Bool.{true}
 use mathlib.Core.List.{List, [], _∷_, _++_}
 use Prim.Native.Nat.{ℕ, zero, suc, _+_, _-_, _*_, _^_, _≤_, _<_}
-use native.Mathlib.Nat.{one-mul, mul-assoc, mul-le-mul-right, le-div-iff-mul-le}
+use native.Mathlib.Nat.{one-mul, mul-assoc, mul-le-mul-right}
 use native.Mathlib.Omega.{arith}
 use lib.ListN.{length, getD, set, take, length-set}
 use lib.Seq.{take-set-le, getD-set-same, getD-append-add}
 use borrow.Author.Tests.{eqb-false}
 use Rattle.codes.specs.Numbers.{DONE, BADCHECK}
 use Rattle.codes.specs.Radio.{Radio, Sound, known, radioOf}
-use Rattle.codes.specs.Chips.{distance}
-use Rattle.codes.specs.Symbol.{symbolOf}
 use Rattle.codes.proofs.Facts.{sound}
-use Rattle.codes.proofs.Unique.{Reads, some-words, of-symbol, read-as}
 use Rattle.frame.specs.Frame.{startOctet, octetsWith, perOctet, raws, encode, Form, symbols, symbolsWith}
 use Rattle.frame.proofs.Below.{Below, below-at, below-set}
 use Rattle.frame.proofs.Count.{raws-below, symbols-long, symbols-same, symbols-below}
 use Rattle.order.specs.Received.{decode, octetAt, octetsFrom}
-use Rattle.order.specs.Order.{window, whole, repaired, reading}
-use Rattle.order.proofs.Raw.{per-positive, bits-pos, decode-long, decode-below, octets-long, size-pos}
-use Rattle.order.proofs.Windows.{whole-long, whole-at, seen}
+use Rattle.order.specs.Order.{whole, reading}
+use Rattle.order.proofs.Raw.{per-positive, bits-pos, decode-long, decode-below, octets-long}
 use Rattle.fcs.specs.Fcs.{bits, withFcs}
 use Rattle.fcs.proofs.Remainder.{with-long}
 use Rattle.checked.specs.Profile.{checkOf, readCheckedOf}
 use Rattle.checked.proofs.Caught.{run-caught}
 use Rattle.fcs.proofs.Bits.{bits-append, bits-long}
-use Rattle.demands.specs.Words.{Report, forms, OneOf}
-use Rattle.demands.specs.Calls.{tells}
-use Rattle.demands.specs.Profile.{ReadAs}
+use Rattle.demands.specs.Words.{Report, forms, OneOf, tells}
+use Rattle.demands.specs.Refusals.{ReadAs}
 use Rattle.demands.proofs.Back.{decode-take, decode-encode, encode-decode}
 use Rattle.demands.proofs.Octet.{raws-octets, octets-below, octet-take}
 use Rattle.demands.proofs.Framed.{again}
 use Rattle.demands.proofs.Forms.{Proper, proper}
 use Rattle.demands.proofs.Spread.{bitsOf, bits-raws, within-two}
-use Rattle.demands.proofs.Stands.{Stands}
+use Rattle.demands.proofs.Read.{read-stands}
 use Rattle.demands.proofs.Answered.{windows-answer}
 use Rattle.demands.proofs.Demand3.{answers-done}
 use Rattle.demands.proofs.Reader.{success-answers}
@@ -160,24 +155,6 @@ module _ (r : Radio) (S : Sound r) (form : Form) (F : Proper r form) (report : L
           → getD (bits report) i 0 ≡ getD (bits other) i 0
       shifted e = sym (report-bit report i) ∙ e ∙ report-bit other i
 
--- What is read so stands in the windows, at the distances from its words.
-module _ (r : Radio) (S : Sound r) (chips vs : List ℕ) (A : ReadAs r chips vs) where
-  read-at : (j : ℕ) → j < length vs → Reads r (window r chips j) (getD vs j 0) (symbolOf r (window r chips j) .distance)
-  read-at j h =
-      rw (← A .value j h) (of-symbol r (window r chips j) (some-words r S) (A .read j h))
-
-  enough : length vs ≤ length (whole r chips)
-  enough = omega (arith, le-div-iff-mul-le {x = length vs} (size-pos r S) .1 (A .long), whole-long r chips)
-
-  pub read-stands : Stands r (whole r chips) vs (repaired (take (length vs) (seen r (whole r chips))))
-  read-stands =
-      record {
-        enough = enough;
-        stands = λ j h.
-            rw (whole-at r chips j (omega (arith, enough)), ← A .value j h) (read-as r (window r chips j) (some-words r S) (A .read j h));
-        total = refl;
-      }
-
 -- A checked frame of which one symbol, of the report or of its FCS, is read as another value.
 module _ (mode : ℕ) (k : known mode ≡ true) (form : Form) (m : OneOf (forms (radioOf mode)) form)
     (report : List ℕ) (o : Below 256 report) (one : 1 ≤ length report) (short : length report ≤ 125)
@@ -199,7 +176,7 @@ module _ (mode : ℕ) (k : known mode ≡ true) (form : Form) (m : OneOf (forms 
   v-known : v < 2 ^ r .bits
   v-known =
       let e : getD (set (symbolsWith r form sent) s v) s 0 ≡ v = getD-set-same (symbolsWith r form sent) s v 0 l in
-      let q = read-at r (sound mode) chips (set (symbolsWith r form sent) s v) A s (omega (arith, l, length-set (symbolsWith r form sent) s v)) .known in
+      let q = A .known s (omega (arith, l, length-set (symbolsWith r form sent) s v)) in
       rw (e, sound mode .many) at q
 
   abbrev got : List ℕ

@@ -37,6 +37,10 @@ abbrev pub ending : Radio → List (List ℕ) → ℕ → Answer
 ending r ws k = succeeded r k (take (suc k) (seen r ws))
 
 -- the parts of an answer
+numberOf : Answer → ℕ
+numberOf (refused x s) = x
+numberOf (done s report count gap polarity) = 0
+
 doneNumber : Answer → ℕ
 doneNumber (refused x s) = 1
 doneNumber (done s report count gap polarity) = 0
@@ -67,9 +71,18 @@ pub same-parts : (p q c d g h u v : ℕ) (xs ys : List ℕ) → done p xs c g u 
 unfolding placeOf reportOf countOf gapPart polarityPart
 same-parts p q c d g h u v xs ys e = (ap placeOf e, ap reportOf e, ap countOf e, ap gapPart e, ap polarityPart e)
 
+-- and so have refusals, of which none is done
+pub refused-parts : (x y s t : ℕ) → refused x s ≡ refused y t → (x ≡ y) × (s ≡ t)
+unfolding numberOf placeOf
+refused-parts x y s t e = (ap numberOf e, ap placeOf e)
+
+pub not-refused : {A : Type 0} (place count gap polarity x s : ℕ) (report : List ℕ) → done place report count gap polarity ≡ refused x s → A
+unfolding doneNumber
+not-refused place count gap polarity x s report e = absurd (omega (arith, ap doneNumber e))
+
 module _ (r : Radio) (room : ℕ) (ws : List (List ℕ)) where
   -- one symbol of the reading
-  step : (m : ℕ) → m < length ws → rest r ws room m
+  pub step : (m : ℕ) → m < length ws → rest r ws room m
       ≡ pick (eqb (symbolOf r (getD ws m []) .number) DONE)
       (concluded r m (take (suc m) (seen r ws)) (verdict r room m (rawsTo r ws (suc m))) (rest r ws room (suc m)))
       (refused (symbolOf r (getD ws m []) .number) m)
@@ -77,7 +90,7 @@ module _ (r : Radio) (room : ℕ) (ws : List (List ℕ)) where
   step m h = rest-more r ws room m h ∙ rw (← seen-next r ws m h, seen-front r ws m (omega arith))
 
   -- symbols that are read, and after each of which more is wanted, are passed
-  passed-to : (n m k : ℕ) → m + n ≡ k → k ≤ length ws → ((j : ℕ) → m ≤ j → j < k → symbolOf r (getD ws j []) .number ≡ DONE)
+  pub passed-to : (n m k : ℕ) → m + n ≡ k → k ≤ length ws → ((j : ℕ) → m ≤ j → j < k → symbolOf r (getD ws j []) .number ≡ DONE)
       → ((j : ℕ) → m ≤ j → j < k → verdict r room j (rawsTo r ws (suc j)) ≡ MORE) → rest r ws room m ≡ rest r ws room k
   unfolding concluded
   passed-to zero m k e h good more = let q : m ≡ k = omega arith in rw q

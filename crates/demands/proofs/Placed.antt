@@ -1,13 +1,13 @@
 -- Where in the frame the numbers that the reading refuses with stand. For any radio. Assumes
 -- nothing.
 use mathlib.Core.Path.{_≡_, refl}
-use mathlib.Core.Bool.{Bool, true, false, not}
+use mathlib.Core.Bool.{true, false}
 use mathlib.Core.List.{List, [], _∷_}
 use Prim.Native.Nat.{ℕ, suc, _+_, _*_, _<_}
 use native.Mathlib.Omega.{arith}
 use lib.ListN.{length, getD}
-use lib.Dec.{eqb, ltb}
-use borrow.Author.Tests.{eqb-true, eqb-false, ltb-true, not-true}
+use lib.Dec.{eqb}
+use borrow.Author.Tests.{eqb-false}
 use Rattle.codes.specs.Numbers.{DONE, NOROOM, RUNOUT, NOCHIP, LOST, PREAMBLE, BADSTART, MORE}
 use Rattle.codes.specs.Chips.{among}
 use Rattle.codes.specs.Radio.{Radio}
@@ -15,10 +15,11 @@ use Rattle.codes.specs.Symbol.{symbolOf}
 use Rattle.codes.specs.declared.Symbol.{Symbol}
 use Rattle.codes.proofs.Tests.{by-pick, not-both}
 use Rattle.codes.proofs.Unique.{symbol-numbers}
-use Rattle.frame.specs.Frame.{startOctet, perOctet}
+use Rattle.frame.specs.Frame.{perOctet}
 use Rattle.order.specs.Received.{decode, received}
-use Rattle.order.specs.Order.{Answer, refused, done, both, ends, rules, reading}
+use Rattle.order.specs.Order.{Answer, refused, done, rules, reading}
 use Rattle.demands.specs.Words.{Placed}
+use Rattle.order.proofs.Rules.{rules-ways}
 use Rattle.reader.proofs.Fair.{found, reading-ways}
 
 -- an answer is done, or refused where the reading order lets it be
@@ -43,10 +44,6 @@ module _ (r : Radio) where
   symbol-placed : (s : ℕ) (w : List ℕ) → Placed r (symbolOf r w .number) s
   symbol-placed s w = symbol-numbers r w (λ x. Placed r x s) (elsewhere NOCHIP s refl) (elsewhere LOST s refl) (elsewhere DONE s refl)
 
-  both-tests : (a b : Bool) → both a b ≡ true → (a ≡ true) × (b ≡ true)
-  both-tests true b e = (refl, e)
-  both-tests false b e = not-both false e refl
-
   -- one number is not another
   clash : {A : Type 0} (x y : ℕ) → eqb x y ≡ false → x ≡ y → A
   clash x y f e = absurd (eqb-false x y f e)
@@ -65,15 +62,9 @@ module _ (r : Radio) where
 
   -- where a raw symbol that isn't 0 is not the first of a chain
   rules-placed : (room s raw start n : ℕ) → ((raw ≡ 0 → ⊥) → r .chained ≡ true → 0 < s) → Placed r (rules (perOctet r) room s raw start n) s
-  unfolding rules
   rules-placed room s raw start n later =
-      let per = perOctet r in
-      by-pick P (both (ltb s (4 * per)) (not (eqb raw 0))) _ _ (λ t.
-      let two = both-tests _ _ t in
-      in-preamble s (ltb-true s (4 * per) (two .0)) (later (eqb-false raw 0 (not-true _ (two .1)))))
-      (λ _. by-pick P (both (ends per 4 s) (not (eqb start startOctet))) _ _ (λ t. ends-start s (eqb-true (suc s) (5 * per) (both-tests _ _ t .0)))
-      (λ _. by-pick P (both (ends per 5 s) (ltb room n)) _ _ (λ t. ends-length s (eqb-true (suc s) (6 * per) (both-tests _ _ t .0)))
-      (λ _. by-pick P (ends per (5 + n) s) _ _ (λ _. elsewhere DONE s refl) (λ _. elsewhere MORE s refl))))
+      rules-ways (perOctet r) room s raw start n P (λ h w. in-preamble s h (later w)) (λ e _. ends-start s e) (λ e _. ends-length s e)
+      (λ _. by-pick P (eqb (suc s) ((6 + n) * perOctet r)) DONE MORE (λ _. elsewhere DONE s refl) (λ _. elsewhere MORE s refl))
     where
       P : ℕ → Type 0
       P z = Placed r z s

@@ -2,8 +2,9 @@
 -- what is shown of the reading is so of the reader; its gap is the least over the frame's windows,
 -- and how small it can be; its polarity is that of the frame which the chips are near; putting a
 -- wrong chip right lowers its count by one, and not its gap; no frame that it accepts holds a flat
--- symbol; a reader that gives number 0 has read a report; and a report is read alike into any
--- buffer with room, and is 3 without. Assumes nothing.
+-- symbol; a reader that gives number 0 has read a report; a reader that gives another refuses by
+-- the reading order; and a report is read alike into any buffer with room, and is 3 without.
+-- Assumes nothing.
 use mathlib.Core.Path.{_≡_, refl, sym, ap, _∙_}
 use mathlib.Core.Logic.{_↔_}
 use mathlib.Core.Bool.{true}
@@ -14,19 +15,24 @@ use lib.ListN.{length, getD, set, take, drop, replicate}
 use lib.Seq.{take-at}
 use Rattle.codes.specs.Numbers.{DONE, NOROOM}
 use Rattle.codes.specs.Radio.{known, radioOf}
+use Rattle.codes.specs.Symbol.{nearest, nextNearest}
 use Rattle.codes.proofs.Facts.{sound, unflat}
-use Rattle.frame.specs.Outcome.{Outcome, outcome}
+use Rattle.frame.specs.Outcome.{Outcome}
 use Rattle.frame.specs.Frame.{perOctet, Form, symbols, frameWith}
 use Rattle.reader.specs.declared.Reading.{Reading}
 use Rattle.order.specs.Order.{Answer, refused, done, window, reading}
 use Rattle.reader.specs.Read.{told, left, answerAt, answered, readOf}
-use Rattle.demands.specs.Words.{Report, forms, frames, OneOf, polarityIn, frameGap, apartIn, Answers, Near, NearOne, success}
+use Rattle.demands.specs.Words.{Report, forms, frames, OneOf, polarityIn, frameGap, apartIn, Answers, Near, NearOne, success, tells}
+use Rattle.demands.specs.Refusals.{Refuses}
 use Rattle.reader.proofs.Fair.{Told, answer-told, Fair, answer-fair, done-unfair}
 use Rattle.demands.proofs.Demand3.{answer-gap, answer-polarity, answers-done, answer-room, answer-frame, demand-3, no-room, near-form}
 use Rattle.demands.proofs.Forms.{sent-as}
+use Rattle.demands.proofs.Frames.{some-symbols}
+use Rattle.demands.proofs.Gaps.{gap-le, gap-at}
 use Rattle.demands.proofs.HowClose.{near-gap, spaced}
 use Rattle.demands.proofs.PutRight.{put-right}
 use Rattle.demands.proofs.NoFlat.{no-flat}
+use Rattle.demands.proofs.Refused.{refused-order}
 
 -- an answer told so is this report's
 pub told-done : (mode : ℕ) (buffer report : List ℕ) (count gap polarity : ℕ) (a : Answer) → Told a
@@ -85,7 +91,7 @@ module _ (mode : ℕ) (k : known mode ≡ true) (chips buffer report : List ℕ)
 
   -- With too little room it is then 3, on the last symbol of the length octet, with nothing stored.
   pub reads-no-room : length buffer < length report → Report report → NearOne (radioOf mode) chips report count
-      → readOf mode chips buffer ≡ outcome (record { number = NOROOM; place = 6 * perOctet (radioOf mode) - 1; n = 0; count = 0; gap = 0; polarity = 0 }) buffer
+      → readOf mode chips buffer ≡ tells NOROOM (6 * perOctet (radioOf mode) - 1) buffer
   unfolding answerAt told left
   reads-no-room h p n =
       rw (k, no-room (radioOf mode) (sound mode) (length buffer) chips report count h p n)
@@ -99,6 +105,17 @@ module _ (mode : ℕ) (k : known mode ≡ true) (chips buffer report : List ℕ)
   -- Its gap is the least over the windows of the frame's symbols ..
   pub reads-gap : gap ≡ frameGap (radioOf mode) chips report
   reads-gap = success-done mode k chips buffer report count gap polarity o .1
+
+  -- .. so no symbol of the frame has a smaller one, and one has just it ..
+  pub reads-gap-of : ((s : ℕ) → s < length (symbols (radioOf mode) report)
+      → gap ≤ nextNearest (radioOf mode) (window (radioOf mode) chips s) - nearest (radioOf mode) (window (radioOf mode) chips s))
+      × ((s : ℕ) × (s < length (symbols (radioOf mode) report))
+      × (nextNearest (radioOf mode) (window (radioOf mode) chips s) - nearest (radioOf mode) (window (radioOf mode) chips s) ≡ gap))
+  reads-gap-of =
+      let r = radioOf mode in
+      let n = length (symbols r report) in
+      let t = gap-at r chips n (some-symbols r (sound mode) report) in
+      (λ s h. rw reads-gap (gap-le r chips n s h), (t .0, t .1, t .2 ∙ sym reads-gap))
 
   -- .. and at least the least distance of two words less twice the limit.
   pub reads-gap-least : apartIn mode - 2 * radioOf mode .limit ≤ gap
@@ -155,6 +172,19 @@ module _ (mode : ℕ) (k : known mode ≡ true) (chips buffer : List ℕ) where
           let a = answers-done (radioOf mode) (sound mode) (length buffer) chips report count place gap polarity q in
           let room = answer-room (radioOf mode) (sound mode) (length buffer) chips report count a in
           (report, count, _, _, room, success-answers mode k chips buffer report count .1 a)
+
+-- The reader refuses with a number at a symbol, and leaves all else as listed, just where the
+-- symbols before it read on and that is wrong with it.
+pub reads-refused : (mode : ℕ) → known mode ≡ true → (chips buffer : List ℕ) (x s : ℕ) → (x ≡ DONE → ⊥)
+    → (readOf mode chips buffer ≡ tells x s buffer) ↔ Refuses (radioOf mode) (length buffer) chips x s
+unfolding answerAt told left
+reads-refused mode k chips buffer x s n =
+    let q = refused-order (radioOf mode) (sound mode) (length buffer) chips x s in
+    (λ o. q .0 (go (reading (radioOf mode) (length buffer) chips) (rw k at o)), λ R. rw (k, q .1 R))
+  where
+    go : (a : Answer) → answered a buffer ≡ tells x s buffer → a ≡ refused x s
+    go (refused y place) e = rw (ap (λ (o : Outcome Reading). o .answer .number) e, ap (λ (o : Outcome Reading). o .answer .place) e)
+    go (done place report count gap polarity) e = absurd (n (sym (ap (λ (o : Outcome Reading). o .answer .number) e)))
 
 -- A report read into one buffer with room is read into any other with room, with the same answer.
 pub other-buffer : (mode : ℕ) → known mode ≡ true → (chips b c report : List ℕ) (count gap polarity : ℕ) → length report ≤ length b

@@ -5,7 +5,7 @@ use mathlib.Core.List.{List, [], _∷_, map}
 use Prim.Native.Nat.{ℕ, zero, suc, _*_, _≤_, _<_}
 use native.Mathlib.Omega.{arith}
 use lib.ListN.{length, getD, take}
-use lib.Seq.{getD-take, take-take}
+use lib.Seq.{ext-getD, getD-take, take-take}
 use Rattle.codes.specs.Radio.{Radio}
 use Rattle.codes.specs.Symbol.{symbolOf}
 use Rattle.codes.specs.declared.Symbol.{Symbol}
@@ -67,3 +67,16 @@ module _ (r : Radio) (ws : List (List ℕ)) where
   polarity-front n h =
       ap (polarityOf r) (sym (take-map (λ (x : Symbol). x .value) n (seen r ws)))
       ∙ ap (chainStart r) (getD-take n (values (seen r ws)) 0 0 h)
+
+  -- where they stand in the windows the values read are theirs
+  module _ (vs : List ℕ) (count : ℕ) (T : Stands r ws vs count) where
+    pub values-are : values (take (length vs) (seen r ws)) ≡ vs
+    values-are =
+        let n = values-long (length vs) (T .enough) in
+        ext-getD 0 (values (take (length vs) (seen r ws))) vs n
+        (λ j h. let l : j < length vs = omega arith in values-at (length vs) j (T .enough) l ∙ ap (λ (x : Symbol). x .value) (T .stands j l))
+
+    -- and so are the raw symbols up to each
+    pub raws-are : (j : ℕ) → j ≤ length vs → received r (values (take j (seen r ws))) ≡ take j (received r vs)
+    raws-are j h =
+        ap (received r) (values-take j (length vs) h ∙ ap (take j) values-are) ∙ sym (received-take r j vs)

@@ -5,6 +5,7 @@ use mathlib.Core.Bool.{true, false, not}
 use mathlib.Core.List.{List, [], _∷_, _++_}
 use Prim.Native.Nat.{ℕ}
 use borrow.Author.Tests.{not-true}
+use Rattle.codes.specs.Chips.{among}
 use Rattle.codes.specs.Radio.{radioOf}
 use Rattle.codes.specs.Symbol.{symbolOf}
 use Rattle.codes.proofs.Tests.{by-test, not-both}
@@ -14,6 +15,10 @@ use Rattle.receiver.specs.Record.{tookSymbol}
 use Rattle.demands.specs.Calls.{Call, pushing, finishing, taking, called, after, numbers, stray, others, counted}
 use Rattle.demands.proofs.Among.{among-pass}
 use Rattle.demands.proofs.Given.{ofSymbol, push-ways, took-given, finish-ways}
+
+-- the calls left out are those that answered 10, 11 or 12
+pub stray-listed : (x : ℕ) → stray x ≡ among x (10 ∷ 11 ∷ 12 ∷ [])
+stray-listed x = refl
 
 -- such a call gives the record back as it was
 stray-same : (c : Receiver) (x : Call) → stray (called c x .number) ≡ true → called c x .receiver ≡ c

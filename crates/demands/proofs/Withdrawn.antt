@@ -9,19 +9,22 @@ use Prim.Native.Nat.{ℕ}
 use native.Mathlib.Omega.{arith}
 use Rattle.codes.specs.Numbers.{DONE, BADMODE, TOOLONG, NOROOM, RUNOUT, NOCHIP, LOST, PREAMBLE, BADSTART, ENDED, BADPART, NOTENDED, MORE, TOOFEW}
 use Rattle.codes.specs.Numbers.{BADCHECK, ALLZERO, FORGED}
-use Rattle.codes.specs.Chips.{among}
-use Rattle.codes.proofs.Tests.{not-both}
+use Rattle.codes.specs.Chips.{pick, among}
+use Rattle.codes.specs.Radio.{known}
+use Rattle.codes.proofs.Tests.{by-pick, not-both}
 use Rattle.codes.specs.Symbol.{matchOf}
 use Rattle.frame.specs.Write.{written}
 use Rattle.reader.specs.Read.{readOf}
 use Rattle.receiver.specs.declared.Receiver.{Receiver}
+use Rattle.receiver.specs.declared.Step.{Step}
 use Rattle.receiver.specs.Record.{startOf, pushOf, finishOf, takeOf}
 use Rattle.checked.specs.Profile.{checkOf, readCheckedOf, writtenChecked}
 use Rattle.checked.proofs.Passing.{check-numbers}
-use Rattle.demands.specs.Calls.{Call, pushing, finishing, taking, called, after, tells}
+use Rattle.demands.specs.Words.{tells}
+use Rattle.demands.specs.Calls.{Call, pushing, finishing, taking, called, after}
 use Rattle.demands.proofs.Demand1.{read-numbers, write-numbers}
 use Rattle.demands.proofs.Matched.{match-numbers}
-use Rattle.demands.proofs.Given.{start-numbers, push-numbers, finish-numbers, take-numbers}
+use Rattle.demands.proofs.Given.{start-tells, push-numbers, finish-numbers, take-numbers}
 use Rattle.demands.proofs.Made.{holds-no, made}
 use Rattle.demands.proofs.Forged.{refused-idle}
 use Rattle.demands.proofs.Checked.{checked-write-numbers, checked-read-numbers}
@@ -56,7 +59,9 @@ check-never octets = other (DONE ∷ TOOFEW ∷ BADCHECK ∷ ALLZERO ∷ []) ref
 
 -- Start, and push and finish of every record.
 pub start-never : (mode : ℕ) → startOf mode .number ≡ 9 → ⊥
-start-never mode = other (BADMODE ∷ MORE ∷ []) refl _ (start-numbers mode)
+start-never mode e =
+    by-pick (λ x. x ≡ 9 → ⊥) (known mode) 13 1 (λ _ z. omega (arith, z)) (λ _ z. omega (arith, z))
+    (ap (λ (s : Step). s .number) (sym (start-tells mode (pick (known mode) 13 1) refl)) ∙ e)
 
 pub push-never : (c : Receiver) (part : List ℕ) → pushOf c part .number ≡ 9 → ⊥
 push-never c part = other (DONE ∷ NOCHIP ∷ LOST ∷ PREAMBLE ∷ BADSTART ∷ ENDED ∷ BADPART ∷ MORE ∷ FORGED ∷ []) refl _ (push-numbers c part)

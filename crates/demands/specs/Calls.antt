@@ -1,21 +1,21 @@
 -- Lists of calls of the stepping receiver, the tests of a record in the words of frames, and what
 -- take tells: the words that its theorems are stated with.
 use mathlib.Core.Path.{_≡_}
-use Prim.Native.Nat.{ℕ, _*_, _≤_, _<_}
+use Prim.Native.Nat.{ℕ, _-_, _*_, _≤_, _<_}
 use mathlib.Core.Bool.{Bool, false}
 use mathlib.Core.Logic.{_⊎_}
-use mathlib.Core.List.{List, [], _∷_}
-use lib.ListN.{length}
+use mathlib.Core.List.{List, [], _∷_, _++_}
+use lib.ListN.{length, replicate}
 use Rattle.codes.specs.Numbers.{DONE, NOROOM, ENDED, BADPART, NOTENDED, MORE}
 use Rattle.codes.specs.Chips.{pick, among}
 use Rattle.codes.specs.Radio.{known, radioOf}
-use Rattle.frame.specs.Outcome.{Outcome, outcome}
 use Rattle.frame.specs.Frame.{symbols}
-use Rattle.reader.specs.declared.Reading.{Reading}
+use Rattle.order.specs.Order.{Answer, refused, done}
+use Rattle.reader.specs.Read.{told}
 use Rattle.receiver.specs.declared.Receiver.{Receiver}
 use Rattle.receiver.specs.declared.Step.{Step}
 use Rattle.receiver.specs.Record.{step, isOpen, pushOf, finishOf, takeOf}
-use Rattle.demands.specs.Words.{success}
+use Rattle.demands.specs.Words.{success, tells}
 
 -- a part pushed, a finish, a take into a buffer
 pub data Call : Type 0 where
@@ -62,6 +62,15 @@ unfoldable pub inOrder : Receiver → List (List ℕ) → List Call
 inOrder c [] = pick (isOpen c) (finishing ∷ []) []
 inOrder c (w ∷ ws) = pick (isOpen c) (pushing w ∷ inOrder (pushOf c w .receiver) ws) []
 
+-- The numbers that a buffer's symbols, pushed in order, are answered with where its reading is an
+-- answer: 13 for each symbol before the one that ends it, and then the answer's number.
+abbrev pub turnsOf : Answer → ℕ
+turnsOf (refused x place) = place
+turnsOf (done place report count gap polarity) = place - 1
+
+abbrev pub numbersOf : Answer → List ℕ
+numbersOf a = replicate (turnsOf a) MORE ++ told a .number ∷ []
+
 -- One of the document's four tests of a record fails: its mode has no radio, its length is above
 -- 127, its count is above the accepted distance times the symbols taken, or the symbols taken don't
 -- fit (`misfit`) the number of symbols of the frame of a report of that length. (That number goes
@@ -79,10 +88,6 @@ FaultyOpen c = Faulty (λ total. total ≤ c .taken) c
 -- of one that ended well: they are not as many
 abbrev pub FaultyWell : Receiver → Type 0
 FaultyWell c = Faulty (λ total. c .taken ≡ total → ⊥) c
-
--- what take tells but for a report, with the lent buffer as it was
-abbrev pub tells : ℕ → ℕ → List ℕ → Outcome Reading
-tells x place buffer = outcome (record { number = x; place = place; n = 0; count = 0; gap = 0; polarity = 0 }) buffer
 
 -- Every call gives the record back as it was: push and finish with one number, take with one at
 -- a place.

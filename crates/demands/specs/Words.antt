@@ -1,7 +1,7 @@
 -- The words that the demands are stated with: a report and its frames, and their inverse; that the
 -- reading answers a report and a count; the gap of chips and their polarity; chips that are one of
--- those frames but for a few in each symbol; the sum of differences; the reader's outcome that
--- tells a report, and outcomes alike but for the polarity; and where a number may stand.
+-- those frames but for a few in each symbol; the sum of differences; the outcomes that tell a
+-- report and a refusal, and outcomes alike but for the polarity; and where a number may stand.
 use mathlib.Core.Path.{_≡_}
 use mathlib.Core.Bool.{true, false}
 use mathlib.Core.Logic.{_⊎_}
@@ -126,6 +126,10 @@ success mode buffer report count gap polarity =
       polarity = polarity;
     })
     (report ++ drop (length report) buffer)
+
+-- what is told but for a report: a number at a place, and the lent buffer as it was
+abbrev pub tells : ℕ → ℕ → List ℕ → Outcome Reading
+tells x place buffer = outcome (record { number = x; place = place; n = 0; count = 0; gap = 0; polarity = 0 }) buffer
 
 -- an answer with the other polarity; a refusal as it is
 abbrev pub otherWay : Answer → Answer

@@ -8,4 +8,5 @@ pub mod Catches
 pub mod Even
 pub mod Four
 pub mod Published
+pub mod Each
 pub mod Settled

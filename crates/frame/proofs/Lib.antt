@@ -1,4 +1,4 @@
--- Laws of the frame and of writing it, leaves first, and the bench sheet.
+-- Laws of the frame and of writing it, leaves first, the bench sheet, and every chip of a frame.
 pub mod Below
 pub mod Modes
 pub mod Chain
@@ -10,3 +10,4 @@ pub mod Turns
 pub mod Writer
 pub mod Settled
 pub mod Bench
+pub mod Sent

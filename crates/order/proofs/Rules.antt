@@ -7,11 +7,11 @@ use Prim.Native.Nat.{ℕ, suc, _+_, _*_, _%_, _≤_, _<_}
 use native.Mathlib.Nat.{suc-mul, mul-le-mul-right, mul-mod-left, le-add-right}
 use native.Mathlib.Omega.{arith}
 use lib.Dec.{eqb, leb, ltb}
-use borrow.Author.Tests.{lt-ltb, le-ltb, eq-eqb, ne-eqb, eqb-true, leb-true, leb-false, ltb-true, ltb-false, not-false}
+use borrow.Author.Tests.{lt-ltb, le-ltb, eq-eqb, ne-eqb, eqb-true, eqb-false, leb-true, leb-false, ltb-true, ltb-false, not-true, not-false}
 use Rattle.codes.specs.Numbers.{DONE, NOROOM, PREAMBLE, BADSTART, MORE}
 use Rattle.codes.specs.Chips.{pick}
 use Rattle.codes.specs.declared.Symbol.{Symbol}
-use Rattle.codes.proofs.Tests.{by-test, not-both}
+use Rattle.codes.proofs.Tests.{by-test, by-pick, not-both, both-true}
 use Rattle.frame.specs.Frame.{startOctet}
 use Rattle.order.specs.declared.Hand.{Hand}
 use Rattle.order.specs.Order.{both, ends, rules}
@@ -117,10 +117,6 @@ module _ (per room s raw : ℕ) where
   pub rules-same : (o p m n : ℕ) → (ends per 4 s ≡ true → o ≡ p) → (6 * per ≤ suc s → m ≡ n) → rules per room s raw o m ≡ rules per room s raw p n
   rules-same o p m n e f = start-same o p m e ∙ length-same p m n f
 
-both-true : (a b : Bool) → both a b ≡ true → b ≡ true
-both-true true b e = e
-both-true false b e = not-both false e refl
-
 -- The reader's test of room, after the rules with room for every report, is the rules with
 -- its room.
 module _ (per room s raw o n p : ℕ) (y : Symbol) (h : Hand) (l : h .length ≤ room)
@@ -141,8 +137,8 @@ module _ (per room s raw o n p : ℕ) (y : Symbol) (h : Hand) (l : h .length ≤
       by-test (both (ltb s (4 * per)) (not (eqb raw 0))) (λ a. rw a (kept PREAMBLE))
       (λ a. by-test (both (ends per 4 s) (not (eqb o startOctet))) (λ b. rw (a, b) (kept BADSTART))
       (λ b. let c = roomy per s n q in by-test (both (ends per 5 s) (ltb room n))
-      (λ e. by-test (ends per (5 + n) s) (λ f. rw (a, b, c, e, f, both-true (ends per 5 s) (ltb room n) e))
-      (λ f. rw (a, b, c, e, f, both-true (ends per 5 s) (ltb room n) e)))
+      (λ e. by-test (ends per (5 + n) s) (λ f. rw (a, b, c, e, f, both-true (ends per 5 s) (ltb room n) e .1))
+      (λ f. rw (a, b, c, e, f, both-true (ends per 5 s) (ltb room n) e .1)))
       (λ e. by-test (ends per (5 + n) s) (λ f. rw (a, b, c, e, f, le-ltb room n (fits e))) (λ f. rw (a, b, c, e, f, le-ltb room n (fits e))))))
 
 -- nothing is wrong at symbol s
@@ -171,25 +167,54 @@ module _ (per room s raw start n : ℕ) where
         last-test,
       )
 
+  -- What is true of each of their ways is true of the rules: each thing that can be wrong, where it
+  -- can be, and nothing wrong.
+  pub rules-ways : (P : ℕ → Type 0) → (s < 4 * per → (raw ≡ 0 → ⊥) → P PREAMBLE)
+      → (suc s ≡ 5 * per → (start ≡ startOctet → ⊥) → P BADSTART) → (suc s ≡ 6 * per → room < n → P NOROOM)
+      → (Clear per room s raw start n → P (pick (eqb (suc s) ((6 + n) * per)) DONE MORE)) → P (rules per room s raw start n)
+  unfolding rules
+  rules-ways P seven eight three none =
+      by-pick P (both (ltb s (4 * per)) (not (eqb raw 0))) _ _
+      (λ a. let t = both-true _ _ a in seven (ltb-true _ _ (t .0)) (eqb-false raw 0 (not-true _ (t .1))))
+      (λ a. by-pick P (both (ends per 4 s) (not (eqb start startOctet))) _ _
+      (λ b. let t = both-true _ _ b in eight (eqb-true _ _ (t .0)) (eqb-false start startOctet (not-true _ (t .1))))
+      (λ b. by-pick P (both (ends per 5 s) (ltb room n)) _ _
+      (λ c. let t = both-true _ _ c in three (eqb-true _ _ (t .0)) (ltb-true _ _ (t .1)))
+      (λ c.
+      rw last-test
+      (none
+      (record {
+        preamble = λ h. eqb-true raw 0 (not-false _ (second _ _ a (lt-ltb s (4 * per) h)));
+        started = λ h. eqb-true start startOctet (not-false _ (second _ _ b (eq-eqb (suc s) (5 * per) h)));
+        fits = λ h. ltb-false room n (second _ _ c (eq-eqb (suc s) (6 * per) h));
+      })))))
+
   -- a number that refuses nothing is given only where nothing is wrong
   pub rules-clear : (x : ℕ) → (x ≡ MORE) ⊎ (x ≡ DONE) → rules per room s raw start n ≡ x → Clear per room s raw start n
+  rules-clear x g =
+      rules-ways (λ z. z ≡ x → Clear per room s raw start n)
+      (λ _ _ e. unsaid PREAMBLE x e g (omega arith) (omega arith)) (λ _ _ e. unsaid BADSTART x e g (omega arith) (omega arith))
+      (λ _ _ e. unsaid NOROOM x e g (omega arith) (omega arith)) (λ C _. C)
+
+  -- each thing wrong by itself: 7, 8 and 3
+  pub wrong-7 : s < 4 * per → (raw ≡ 0 → ⊥) → rules per room s raw start n ≡ PREAMBLE
   unfolding rules
-  rules-clear x g e =
-      go (both (ltb s (4 * per)) (not (eqb raw 0))) refl (both (ends per 4 s) (not (eqb start startOctet)))
-      refl (both (ends per 5 s) (ltb room n)) refl e
-    where
-      go : (a : Bool) → both (ltb s (4 * per)) (not (eqb raw 0)) ≡ a → (b : Bool) → both (ends per 4 s) (not (eqb start startOctet)) ≡ b
-          → (c : Bool) → both (ends per 5 s) (ltb room n) ≡ c
-          → pick a PREAMBLE (pick b BADSTART (pick c NOROOM (pick (ends per (5 + n) s) DONE MORE))) ≡ x → Clear per room s raw start n
-      go true _ b _ c _ e = unsaid PREAMBLE x e g (omega arith) (omega arith)
-      go false p true _ c _ e = unsaid BADSTART x e g (omega arith) (omega arith)
-      go false p false q true _ e = unsaid NOROOM x e g (omega arith) (omega arith)
-      go false p false q false u e =
-          record {
-            preamble = λ h. eqb-true raw 0 (not-false _ (second _ _ p (lt-ltb s (4 * per) h)));
-            started = λ h. eqb-true start startOctet (not-false _ (second _ _ q (eq-eqb (suc s) (5 * per) h)));
-            fits = λ h. ltb-false room n (second _ _ u (eq-eqb (suc s) (6 * per) h));
-          }
+  wrong-7 h w = rw (lt-ltb s (4 * per) h, ne-eqb raw 0 w)
+
+  module _ (p : s < 4 * per → raw ≡ 0) where
+    pub wrong-8 : suc s ≡ 5 * per → (start ≡ startOctet → ⊥) → rules per room s raw start n ≡ BADSTART
+    unfolding rules
+    wrong-8 e w = rw (passes per s raw p, eq-eqb (suc s) (5 * per) e, ne-eqb start startOctet w)
+
+    pub wrong-3 : (suc s ≡ 5 * per → start ≡ startOctet) → suc s ≡ 6 * per → room < n → rules per room s raw start n ≡ NOROOM
+    unfolding rules
+    wrong-3 b e l =
+        rw (
+          passes per s raw p,
+          neither (ends per 4 s) (not (eqb start startOctet)) (λ t. rw (eq-eqb start startOctet (b (eqb-true _ _ t)))),
+          eq-eqb (suc s) (6 * per) e,
+          lt-ltb room n l,
+        )
 
   -- and it is DONE only on the report's last symbol
   pub rules-last : rules per room s raw start n ≡ DONE → suc s ≡ (6 + n) * per

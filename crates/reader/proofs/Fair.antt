@@ -1,11 +1,12 @@
--- The numbers that the reading refuses with, of which the number of success is none. For any radio.
--- Assumes nothing.
+-- The numbers that the reading refuses with, of which the number of success is none, and with room
+-- for 127 octets 3 is none. For any radio. Assumes nothing.
 use mathlib.Core.Path.{_≡_, refl}
-use mathlib.Core.Bool.{true, false, not}
+use mathlib.Core.Bool.{true, false}
 use mathlib.Core.List.{List, [], _∷_, _++_}
-use Prim.Native.Nat.{ℕ, _+_, _*_}
+use Prim.Native.Nat.{ℕ, suc, _+_, _*_, _≤_}
+use native.Mathlib.Omega.{arith}
 use lib.ListN.{length}
-use lib.Dec.{eqb, ltb}
+use lib.Dec.{eqb}
 use borrow.Author.Tests.{eqb-false}
 use Rattle.codes.specs.declared.Symbol.{Symbol}
 use Rattle.codes.specs.Numbers.{DONE, BADMODE, NOROOM, RUNOUT, NOCHIP, LOST, PREAMBLE, BADSTART, MORE}
@@ -14,10 +15,11 @@ use Rattle.codes.specs.Radio.{Radio, known, radioOf}
 use Rattle.codes.specs.Symbol.{symbolOf}
 use Rattle.codes.proofs.Tests.{by-pick, not-both}
 use Rattle.codes.proofs.Unique.{symbol-numbers}
-use Rattle.frame.specs.Frame.{startOctet, perOctet}
-use Rattle.order.specs.Order.{Answer, refused, done, both, ends, rules, values, verdict, concluded, taking, readingFrom, reading, whole}
-use Rattle.reader.specs.Read.{answerAt}
+use Rattle.frame.specs.Frame.{perOctet}
+use Rattle.order.specs.Order.{Answer, refused, done, rules, values, verdict, concluded, taking, readingFrom, reading, whole}
+use Rattle.reader.specs.Read.{told, answerAt}
 use Rattle.order.specs.Received.{received}
+use Rattle.order.proofs.Rules.{rules-ways}
 
 -- those of the reading order
 abbrev pub refusals : List ℕ
@@ -36,12 +38,9 @@ symbol-fair r w =
 -- a rule that ends the reading without success
 rules-fair : (per room s raw start n : ℕ) → (rules per room s raw start n ≡ MORE → ⊥) → (rules per room s raw start n ≡ DONE → ⊥)
     → among (rules per room s raw start n) refusals ≡ true
-unfolding rules
 rules-fair per room s raw start n =
-    by-pick P (both (ltb s (4 * per)) (not (eqb raw 0))) _ _ (λ _ m d. refl)
-    (λ _. by-pick P (both (ends per 4 s) (not (eqb start startOctet))) _ _ (λ _ m d. refl)
-    (λ _. by-pick P (both (ends per 5 s) (ltb room n)) _ _ (λ _ m d. refl)
-    (λ _. by-pick P (ends per (5 + n) s) _ _ (λ _ m d. absurd (d refl)) (λ _ m d. absurd (m refl)))))
+    rules-ways per room s raw start n P (λ _ _ m d. refl) (λ _ _ m d. refl) (λ _ _ m d. refl)
+    (λ _. by-pick P (eqb (suc s) ((6 + n) * per)) DONE MORE (λ _ m d. absurd (d refl)) (λ _ m d. absurd (m refl)))
   where
     P : ℕ → Type 0
     P z = (z ≡ MORE → ⊥) → (z ≡ DONE → ⊥) → among z refusals ≡ true
@@ -84,6 +83,25 @@ answer-fair r room =
     reading-ways r room Fair (λ s. refl) (λ s w. symbol-fair r w) (λ before x. rules-fair (perOctet r) room _ _ _ _)
     (λ place report count gap polarity. tt)
 
+-- With room for 127 octets none is refused for want of it: n is the low seven bits of an octet.
+abbrev pub Roomy : Answer → Type 0
+Roomy (refused x place) = x ≡ NOROOM → ⊥
+Roomy (done place report count gap polarity) = Unit {0}
+
+rules-roomy : (per room s raw start n : ℕ) → n ≤ room → rules per room s raw start n ≡ NOROOM → ⊥
+rules-roomy per room s raw start n h =
+    rules-ways per room s raw start n P (λ _ _ e. omega (arith, e)) (λ _ _ e. omega (arith, e)) (λ _ l _. omega arith)
+    (λ _. by-pick P (eqb (suc s) ((6 + n) * per)) DONE MORE (λ _ e. omega (arith, e)) (λ _ e. omega (arith, e)))
+  where
+    P : ℕ → Type 0
+    P z = z ≡ NOROOM → ⊥
+
+pub answer-roomy : (r : Radio) (room : ℕ) → 127 ≤ room → (chips : List ℕ) → Roomy (reading r room chips)
+answer-roomy r room h =
+    reading-ways r room Roomy (λ s e. omega (arith, e))
+    (λ s w _. symbol-numbers r w (λ x. x ≡ NOROOM → ⊥) (λ e. omega (arith, e)) (λ e. omega (arith, e)) (λ e. omega (arith, e)))
+    (λ before x _ _. rules-roomy (perOctet r) room _ _ _ _ (omega arith)) (λ place report count gap polarity. tt)
+
 -- done is none of these numbers
 pub done-unfair : (x : ℕ) → x ≡ DONE → among x refusals ≡ true → ⊥
 done-unfair x z f = not-both false (rw z at f) refl
@@ -101,3 +119,16 @@ answer-told mode room chips =
     go : (a : Answer) → Fair a → Told a
     go (refused x place) f = λ z. done-unfair x z f
     go (done place report count gap polarity) f = tt
+
+-- and with that room it is not 3
+pub told-roomy : (mode room : ℕ) → 127 ≤ room → (chips : List ℕ) → told (answerAt mode room chips) .number ≡ NOROOM → ⊥
+unfolding answerAt told
+told-roomy mode room h chips =
+    by-pick P (known mode) _ _ (λ _. go (reading (radioOf mode) room chips) (answer-roomy (radioOf mode) room h chips)) (λ _ e. omega (arith, e))
+  where
+    P : Answer → Type 0
+    P a = told a .number ≡ NOROOM → ⊥
+
+    go : (a : Answer) → Roomy a → P a
+    go (refused x place) f = f
+    go (done place report count gap polarity) f = λ e. omega (arith, e)

@@ -16,7 +16,7 @@ use Rattle.codes.proofs.Tests.{by-test}
 use Rattle.codes.proofs.Facts.{sound}
 use Rattle.order.specs.Order.{Answer, refused, done, readingFrom}
 use Rattle.order.specs.Taking.{followed, keptAt}
-use Rattle.reader.specs.Telling.{Tells}
+use Rattle.reader.specs.Telling.{handed, Tells}
 use Rattle.reader.proofs.Sofar.{Sofar, starts, out, handed-open, handed-refused, handed-done}
 use Rattle.reader.proofs.Modes.{symbol-followed}
 use Rattle.receiver.specs.declared.Receiver.{Receiver}
@@ -29,14 +29,15 @@ pub record Going (mode : ℕ) (ws : List (List ℕ)) (c : Receiver) : Type 0 whe
   pub own : c .mode ≡ mode
   pub sofar : Sofar (radioOf mode) 127 ws (c .octets) (handOf c)
 
--- ended, and take gives the answer a
+-- ended, the numbers and octets held tell the answer a, and take gives it
 pub record Gone (a : Answer) (c : Receiver) : Type 0 where
   pub more : c .ended ≡ MORE → ⊥
+  pub is : a ≡ handed (handOf c) (c .octets)
   pub same : (room : ℕ) → takes c room ≡ roomFor room a
 
 pub start-gone : (mode : ℕ) → known mode ≡ false → Gone (refused BADMODE 0) (startOf mode .receiver)
-unfolding startOf takes roomFor forged
-start-gone mode k = rw k (record { more = λ m. omega arith; same = λ room. refl })
+unfolding startOf takes roomFor forged handed
+start-gone mode k = rw k (record { more = λ m. omega arith; is = refl; same = λ room. refl })
 
 module _ (mode : ℕ) (k : known mode ≡ true) (ws : List (List ℕ)) where
   abbrev answer : Answer
@@ -52,6 +53,7 @@ module _ (mode : ℕ) (k : known mode ≡ true) (ws : List (List ℕ)) where
   told-gone c own more T =
       record {
         more = more;
+        is = T .is;
         same = λ room. by-test (eqb (c .ended) DONE)
             (λ d.
             let e = eqb-true (c .ended) DONE d in

@@ -2,3 +2,4 @@
 mod Digits
 mod Option
 mod Fits
+mod Sheet
