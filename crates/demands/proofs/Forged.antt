@@ -21,8 +21,8 @@ use Rattle.codes.proofs.Unique.{some-words, nochip-of, lost-of}
 use Rattle.codes.proofs.Tests.{by-test, not-both}
 use Rattle.frame.specs.Frame.{perOctet, plain, symbols}
 use Rattle.frame.proofs.Count.{symbols-long}
-use Rattle.order.specs.Order.{Answer, done}
-use Rattle.order.specs.Taking.{stopped}
+use Rattle.order.specs.Order.{Answer, done, rules}
+use Rattle.order.specs.Taking.{stopped, shifted, lengthAfter, rawNext}
 use Rattle.order.proofs.Steps.{follow-refused, kept-stops}
 use Rattle.reader.specs.Read.{told, left, answered}
 use Rattle.receiver.specs.declared.Receiver.{Receiver}
@@ -36,7 +36,7 @@ use Rattle.demands.specs.Words.{tells}
 use Rattle.demands.specs.Calls.{Call, pushing, finishing, taking, called, after, Idle}
 use Rattle.demands.specs.Calls.{Faulty, no-radio, too-long, too-many-repaired, misfits, FaultyOpen, FaultyWell}
 use Rattle.demands.proofs.Among.{among-pass}
-use Rattle.demands.proofs.Given.{ofSymbol, found, followed-read, push-ways, took-given, finish-ways, takes-ways}
+use Rattle.demands.proofs.Given.{ofSymbol, followed-read, push-ways, took-given, finish-ways, takes-ways}
 use Rattle.demands.proofs.Made.{holds-no, passes, made}
 
 -- ---- 34 is the number of a forged record, whatever is called
@@ -191,8 +191,10 @@ module _ (c : Receiver) where
       open-lost b far =
           refused-with 6 (ap (λ (x : Symbol). x .number) (lost-of r part (some-words r (sound (c .mode))) (record { chip = b; far = far }))) refl refl
 
-      pub open-read : symbolOf r part .number ≡ 0 → pushOf c part .number ≡ found r (handOf c) (symbolOf r part)
-      open-read e = ap (λ (s : Step). s .number) symbol-pushed ∙ followed-read (c .mode) (passed-known c f (inl o)) (handOf c) part e
+      pub open-read : symbolOf r part .number ≡ 0 → (raw octet : ℕ) → raw ≡ rawNext r (handOf c) (symbolOf r part) → octet ≡ shifted r (c .octet) raw
+          → pushOf c part .number ≡ rules (perOctet r) 127 (c .taken) raw octet (lengthAfter (perOctet r) (c .taken) (c .length) octet)
+      open-read e raw octet a b =
+          ap (λ (s : Step). s .number) symbol-pushed ∙ followed-read (c .mode) (passed-known c f (inl o)) (handOf c) part e ∙ rw (b, a)
 
   -- A record that ended well and fails a test likewise.
   module _ (d : c .ended ≡ DONE) where

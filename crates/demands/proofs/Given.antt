@@ -72,7 +72,7 @@ module _ (r : Radio) (h : Hand) (x : Symbol) where
   abbrev n : ℕ
   n = lengthAfter (perOctet r) (h .taken) (h .length) octet
 
-  abbrev pub found : ℕ
+  abbrev found : ℕ
   found = rules (perOctet r) 127 (h .taken) (rawNext r h x) octet n
 
   abbrev onto : Hand

@@ -169,10 +169,10 @@ module _ (r : Radio) (S : Sound r) (room : ℕ) (chips : List ℕ) where
   -- ---- and what is refused is wrong
 
   module _ (x s : ℕ) where
-    -- so it is with a refusal at the symbol after these values
-    found : (vs : List ℕ) → ReadAs r chips vs → GoesOn r room (received r vs) → (y : ℕ) → refused y (length vs) ≡ refused x s
+    -- a refusal at the symbol after these values is what is wrong there
+    refuses-with : (vs : List ℕ) → ReadAs r chips vs → GoesOn r room (received r vs) → (y : ℕ) → refused y (length vs) ≡ refused x s
         → Wrong r room chips vs y → Refuses r room chips x s
-    found vs A G y e w =
+    refuses-with vs A G y e w =
         let p = refused-parts y x (length vs) s e in
         record { values = vs; place = p .1; read = A; on = G; wrong = subst (λ (z : ℕ). Wrong r room chips vs z) (p .0) w }
 
@@ -205,7 +205,7 @@ module _ (r : Radio) (S : Sound r) (room : ℕ) (chips : List ℕ) where
 
       -- its chips aren't read
       unread-here : (y : ℕ) → symbolOf r w .number ≡ y → eqb y DONE ≡ false → Wrong r room chips vs y → Refuses r room chips x s
-      unread-here y o d = found vs A G y (ap (refused y) vs-long ∙ (rw (o, d) at turn))
+      unread-here y o d = refuses-with vs A G y (ap (refused y) vs-long ∙ (rw (o, d) at turn))
 
       -- or they are
       module _ (o : symbolOf r w .number ≡ DONE) where
@@ -244,10 +244,10 @@ module _ (r : Radio) (S : Sound r) (room : ℕ) (chips : List ℕ) where
         ruled-here =
             let v = symbolOf r w .value in
             rules-ways (perOctet r) room m (getD read m 0) (octetAt r 4 read) (lengthIn r read) Then
-            (λ l n q. found vs A G PREAMBLE (ap (refused PREAMBLE) vs-long ∙ q)
+            (λ l n q. refuses-with vs A G PREAMBLE (ap (refused PREAMBLE) vs-long ∙ q)
             (not-zero refl v reads (omega (arith, vs-long)) (λ z. n (ap (λ (k : ℕ). getD read k 0) (sym vs-long) ∙ z))))
-            (λ l n q. found vs A G BADSTART (ap (refused BADSTART) vs-long ∙ q) (no-start refl v reads (omega (arith, vs-long)) n))
-            (λ l n q. found vs A G NOROOM (ap (refused NOROOM) vs-long ∙ q) (no-room refl v reads (omega (arith, vs-long)) n))
+            (λ l n q. refuses-with vs A G BADSTART (ap (refused BADSTART) vs-long ∙ q) (no-start refl v reads (omega (arith, vs-long)) n))
+            (λ l n q. refuses-with vs A G NOROOM (ap (refused NOROOM) vs-long ∙ q) (no-room refl v reads (omega (arith, vs-long)) n))
             (λ C. by-pick Then (eqb (suc m) ((6 + lengthIn r read) * perOctet r)) DONE MORE (λ _ q. not-refused _ _ _ _ _ _ _ q)
             (λ t q. further (subst (ReadAs r chips) (sym more-are) reads)
             (subst (λ (us : List ℕ). GoesOn r room (received r us)) (sym more-are) (goes-next r room read m read-long before C t)) q))
@@ -269,7 +269,7 @@ module _ (r : Radio) (S : Sound r) (room : ℕ) (chips : List ℕ) where
         → rest r ws room m ≡ refused x s → Refuses r room chips x s
     refused-from zero m l A G e =
         let k = values-long r ws m (omega arith) in
-        found (vsTo m) A G RUNOUT (ap (refused RUNOUT) k ∙ sym (rest-out r ws room m (omega arith)) ∙ e)
+        refuses-with (vsTo m) A G RUNOUT (ap (refused RUNOUT) k ∙ sym (rest-out r ws room m (omega arith)) ∙ e)
         (runs-out refl
         (by-test (ltb (length chips) (suc (length (vsTo m)) * r .size)) (λ t. ltb-true _ _ t)
         (λ t. absurd (omega (arith, window-in r S chips (length (vsTo m)) (ltb-false _ _ t), k)))))

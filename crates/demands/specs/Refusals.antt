@@ -1,6 +1,6 @@
 -- The words that the theorem of the reading order is stated with, in the order of document 01's
--- "Reading order" and of chips, distances, raw symbols and octets alone: symbols that are read,
--- that the reading goes on after them, and what is found wrong at the next one.
+-- "Reading order", of chips, distances, raw symbols and octets: symbols that are read, that the
+-- reading goes on after them, and what is found wrong at the next one.
 use mathlib.Core.Path.{_≡_}
 use mathlib.Core.List.{List, [], _∷_, _++_}
 use Prim.Native.Nat.{ℕ, suc, _+_, _*_, _≤_, _<_}
@@ -27,9 +27,9 @@ pub record GoesOn (r : Radio) (room : ℕ) (bs : List ℕ) : Type 0 where
   pub fits : 6 * perOctet r ≤ length bs → lengthIn r bs ≤ room
   pub more : 6 * perOctet r ≤ length bs → length bs < (6 + lengthIn r bs) * perOctet r
 
--- the chips of a symbol, after those of the values before it, are all there
-abbrev pub Whole : Radio → List ℕ → List ℕ → Type 0
-Whole r chips vs = suc (length vs) * r .size ≤ length chips
+-- the chips of the symbol after these values are all there
+abbrev pub NextWhole : Radio → List ℕ → List ℕ → Type 0
+NextWhole r chips vs = suc (length vs) * r .size ≤ length chips
 
 -- What is wrong at the symbol after these values, which has their number, and the number that it is
 -- refused with.
@@ -37,9 +37,9 @@ pub data Wrong (r : Radio) (room : ℕ) (chips vs : List ℕ) (x : ℕ) : Type 0
   -- 1. Fewer chips left than one symbol: 4.
   runs-out : x ≡ 4 → length chips < suc (length vs) * r .size → Wrong r room chips vs x
   -- 2. A byte above 1 among the symbol's chips: 5.
-  no-chip : x ≡ 5 → Whole r chips vs → (i : ℕ) → i < r .size → 1 < getD chips (length vs * r .size + i) 0 → Wrong r room chips vs x
+  no-chip : x ≡ 5 → NextWhole r chips vs → (i : ℕ) → i < r .size → 1 < getD chips (length vs * r .size + i) 0 → Wrong r room chips vs x
   -- 3. No code word within the accepted distance: 6.
-  lost : x ≡ 6 → Whole r chips vs → ((i : ℕ) → i < r .size → getD chips (length vs * r .size + i) 0 ≤ 1)
+  lost : x ≡ 6 → NextWhole r chips vs → ((i : ℕ) → i < r .size → getD chips (length vs * r .size + i) 0 ≤ 1)
       → ((v : ℕ) → v < length (r .words) → r .limit < distance (window r chips (length vs)) (word r v)) → Wrong r room chips vs x
   -- 4. In the preamble, a raw bit or symbol that isn't 0: 7.
   not-zero : x ≡ 7 → (v : ℕ) → ReadAs r chips (vs ++ v ∷ []) → length vs < 4 * perOctet r

@@ -84,9 +84,9 @@ answer-fair r room =
     (λ place report count gap polarity. tt)
 
 -- With room for 127 octets none is refused for want of it: n is the low seven bits of an octet.
-abbrev pub Roomy : Answer → Type 0
-Roomy (refused x place) = x ≡ NOROOM → ⊥
-Roomy (done place report count gap polarity) = Unit {0}
+abbrev pub NotShort : Answer → Type 0
+NotShort (refused x place) = x ≡ NOROOM → ⊥
+NotShort (done place report count gap polarity) = Unit {0}
 
 rules-roomy : (per room s raw start n : ℕ) → n ≤ room → rules per room s raw start n ≡ NOROOM → ⊥
 rules-roomy per room s raw start n h =
@@ -96,9 +96,9 @@ rules-roomy per room s raw start n h =
     P : ℕ → Type 0
     P z = z ≡ NOROOM → ⊥
 
-pub answer-roomy : (r : Radio) (room : ℕ) → 127 ≤ room → (chips : List ℕ) → Roomy (reading r room chips)
+pub answer-roomy : (r : Radio) (room : ℕ) → 127 ≤ room → (chips : List ℕ) → NotShort (reading r room chips)
 answer-roomy r room h =
-    reading-ways r room Roomy (λ s e. omega (arith, e))
+    reading-ways r room NotShort (λ s e. omega (arith, e))
     (λ s w _. symbol-numbers r w (λ x. x ≡ NOROOM → ⊥) (λ e. omega (arith, e)) (λ e. omega (arith, e)) (λ e. omega (arith, e)))
     (λ before x _ _. rules-roomy (perOctet r) room _ _ _ _ (omega arith)) (λ place report count gap polarity. tt)
 
@@ -129,6 +129,6 @@ told-roomy mode room h chips =
     P : Answer → Type 0
     P a = told a .number ≡ NOROOM → ⊥
 
-    go : (a : Answer) → Roomy a → P a
+    go : (a : Answer) → NotShort a → P a
     go (refused x place) f = f
     go (done place report count gap polarity) f = λ e. omega (arith, e)
