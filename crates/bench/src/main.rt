@@ -6,6 +6,8 @@
 // reader its reading, because a number of 32 bits has at most ten digits (`few_digits`), so that
 // 198 bytes are room enough, and because each entry stands behind those before it
 // (proofs/Text.antt).
+#![tactic(auto)]
+
 ghost use Rattle.std.specs.Prelude.{◌≡◌, ◌++◌, ◌+◌, ◌≤◌, length, take};
 ghost use Rattle.io.specs.Counts.{IsPrefixLen};
 ghost use Rattle.bench.specs.Lines.{most, entry, line_of, lines_of};

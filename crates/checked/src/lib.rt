@@ -4,6 +4,8 @@
 // gives. The promises name the plain ones' definitions, so the proofs are those of the few tests in
 // between, of the octets appended, and of the room that the plain reader is lent
 // (proofs/Room.antt).
+#![tactic(auto)]
+
 ghost use Rattle.std.specs.Prelude.{◌≡◌, ◌+◌, ◌*◌, ◌≤◌, min, length, take};
 ghost use Rattle.frame.specs.Outcome.{outcome};
 ghost use Rattle.fcs.specs.Fcs.{with_fcs};

@@ -4,6 +4,8 @@
 // has the bits matched (the room `matching`). That at most one word lies within the limit is a law
 // over word length, number of words and limit (proofs/Unique.antt); that the symbol of the bits is
 // that of the chips is shown in proofs/Gathering.antt.
+#![tactic(auto)]
+
 ghost use Rattle.std.specs.Prelude.{◌≡◌, ◌+◌, ◌≤◌, length};
 ghost use Rattle.codes.specs.Packed.{from, packed};
 ghost use Rattle.codes.specs.Gathered.{gathered, gathered_at};

@@ -5,6 +5,8 @@
 // and together in all odd ones: eight pairs of counts give sixteen distances. No word is kept but
 // word 0, and nothing leaves the loops, so the back end looks at eight words at a time
 // (proofs/Words.antt, proofs/Leasts.antt).
+#![tactic(auto)]
+
 ghost use Rattle.std.specs.Prelude.{◌≡◌, ◌^◌, ◌<◌, ◌≤◌, count_ones};
 ghost use Rattle.codes.specs.Near.{nearest_in};
 ghost use Rattle.columns.specs.Columns.{first_third, four_columns, two_columns, turned_bits, turned_pair, even_parted, odd_parted, apart_at, Half, Keyed, least_past, near_in};

@@ -3,6 +3,8 @@
 // octet by the table is its eight bits, for every register: adding without carries goes through the
 // step of one bit, so that what stands above the eight bits only comes down, and what eight steps
 // make of the low eight is looked up (proofs/Register.antt, proofs/Entry.antt).
+#![tactic(auto)]
+
 ghost use Rattle.std.specs.Prelude.{◌≡◌, ◌<◌};
 ghost use Rattle.frame.specs.Frame.{digits};
 ghost use Rattle.fcs.specs.Fcs.{entered, register_after, fcs_of};

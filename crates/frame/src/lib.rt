@@ -1,5 +1,7 @@
 // What the writer gives back, and the start octet. The frame itself is a definition (specs/), and
 // what is known of it are laws (proofs/): readers and writer both stand on these.
+#![tactic(auto)]
+
 ghost use Rattle.std.specs.Prelude.{◌≡◌};
 ghost use Rattle.frame.specs.Write.{refused};
 

@@ -2,6 +2,8 @@
 // is one call of a function below it and promises what that one does, so there is nothing more to
 // prove. The structs are those of `codes`, `frame`, `reader` and `receiver`, laid out as C lays
 // them out.
+#![tactic(auto)]
+
 ghost use Rattle.std.specs.Prelude.{◌≡◌};
 ghost use Rattle.codes.specs.Symbol.{match_of};
 ghost use Rattle.frame.specs.Outcome.{outcome};

@@ -2,6 +2,8 @@
 // they say. How far the words are is counted on the bits (fifteen.rt, and the room `columns`). The
 // nearest word and both distances are the definition's own, so that what is made of them is the
 // symbol (proofs/Judging.antt).
+#![tactic(auto)]
+
 ghost use Rattle.std.specs.Prelude.{◌≡◌, true, length};
 ghost use Rattle.codes.specs.Radio.{known, radio_of};
 ghost use Rattle.codes.specs.Symbol.{refused, symbol_of, match_of};

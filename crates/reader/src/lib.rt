@@ -2,6 +2,8 @@
 // symbols around a loop over chips; between symbols it carries a few numbers, the hand (the room
 // `order`), by the steps of one symbol (`steps`); what is still to be read stays the whole
 // reading's answer (proofs/Sofar.antt, proofs/Scanning.antt).
+#![tactic(auto)]
+
 ghost use Rattle.std.specs.Prelude.{◌≡◌, true, length};
 ghost use Rattle.codes.specs.Radio.{known, radio_of};
 ghost use Rattle.codes.specs.Gathered.{gathered_at, symbol_in};

@@ -3,6 +3,8 @@
 // pattern is a record, and each call says what it makes of it. A part is matched by itself (the
 // room `matching`), and its symbol is taken by the reader's own functions, so the laws of the
 // reader's loop carry over (proofs/Stepping.antt).
+#![tactic(auto)]
+
 ghost use Rattle.std.specs.Prelude.{◌≡◌, ◌%◌};
 ghost use Rattle.codes.specs.Chips.{pick};
 ghost use Rattle.frame.specs.Outcome.{outcome};

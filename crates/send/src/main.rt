@@ -2,6 +2,8 @@
 // chip, to standard output. The mode is the last argument; -c before it asks for the checked
 // profile. On a refusal it writes nothing there, and the number and its meaning, one line, to
 // standard error.
+#![tactic(auto)]
+
 ghost use Rattle.std.specs.Prelude.{◌≡◌, min, ◌≤◌, length};
 ghost use Rattle.frame.specs.Outcome.{outcome};
 ghost use Rattle.send.specs.Mode.{none, mode_of};

@@ -1,6 +1,8 @@
 // The reading order, one symbol at a time: what a symbol's match makes of the hand. The functions
 // meet the ways of one step that `order` has laws for (proofs/Steps.antt, proofs/Rules.antt there).
 // The reader's loop and the stepping receiver's push take a symbol by the same functions.
+#![tactic(auto)]
+
 ghost use Rattle.std.specs.Prelude.{◌≡◌, ◌%◌, ◌<◌, ◌≤◌, true, ◌==◌};
 ghost use Rattle.order.specs.Order.{ends, rules};
 ghost use Rattle.order.specs.Taking.{begun, stopped, raw_by, shifted_by, length_after, moved, onward, followed, whole_at, kept_at};

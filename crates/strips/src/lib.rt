@@ -4,6 +4,8 @@
 // specs/Radio.antt), and shown to hold each of them (proofs/Runs.antt). The loops have constant
 // lengths where the mode is constant, and each chip is a function of its index, so the back end
 // then computes all of them and only stores.
+#![tactic(auto)]
+
 ghost use Rattle.std.specs.Prelude.{◌≡◌};
 ghost use Rattle.strips.specs.Strip.{Fits, strip_at, row_at, chip_of, flip_of};
 

@@ -7,6 +7,8 @@
 // before it is used, and because the writer promises a count that fits the buffer (`chips_fit`). A
 // case that didn't fit would print no line, and the comparison would show that. Bytes are handed on
 // one at a time, not as strings: a string in a call is dear to check.
+#![tactic(auto)]
+
 ghost use Rattle.std.specs.Prelude.{◌≡◌, length};
 
 use libc::STDOUT_FILENO;

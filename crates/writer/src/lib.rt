@@ -1,6 +1,8 @@
 // The writer: a report's octets to symbols, symbols to chips. The loops over octets and over
 // symbols keep that what is still to be written over the buffer is what they set out to write, so
 // each turn is one law about writing over a list (`frame`, proofs/Turns.antt).
+#![tactic(auto)]
+
 ghost use Rattle.std.specs.Prelude.{◌≡◌, true, ◌+◌, ◌*◌, ◌%◌, ◌^◌, ◌≤◌, ◌<◌, length, get_or, drop};
 ghost use Rattle.std.proofs.Math.Seq.{paste};
 ghost use Rattle.codes.specs.Chips.{pick};

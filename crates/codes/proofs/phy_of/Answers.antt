@@ -6,24 +6,20 @@ use Rattle.codes.specs.Packed.{packed}
 use Rattle.codes.specs.Gathered.{gathered, gathered_all}
 use Rattle.codes.specs.Phy.{phy_at}
 use Rattle.codes.proofs.Modes.{unknown}
-use Rattle.codes.proofs.phy_of.Statement.{statement}
-use Rattle.codes.proofs.phy_of.Tie as tie
+use Rattle.codes.proofs.phy_of.Goals as goal
 
-returns : tie.Need-returns
+pub returns-then-mode-eq0 : goal.returns-then-mode-eq0
 unfolding phy_at gathered_all gathered packed bad bpsk_words
-returns c = rw c.if1.true
+returns-then-mode-eq0 c = rw c.if-mode-eq0.true
 
-returns-2 : tie.Need-returns-2
+pub returns-then-mode-eq1 : goal.returns-then-mode-eq1
 unfolding phy_at gathered_all gathered packed bad oqpsk_words turned_words turns oqpsk_word
-returns-2 c = rw c.if2.true
+returns-then-mode-eq1 c = rw c.if-mode-eq1.true
 
-returns-3 : tie.Need-returns-3
+pub returns-then-mode-eq2 : goal.returns-then-mode-eq2
 unfolding phy_at gathered_all gathered packed bad lowband_words turned_words turns lowband_word
-returns-3 c = rw c.if3.true
+returns-then-mode-eq2 c = rw c.if-mode-eq2.true
 
-returns-4 : tie.Need-returns-4
+pub returns : goal.returns
 unfolding phy_at
-returns-4 c = rw (unknown _ c.before.before.if1.false c.before.if2.false c.if3.false)
-
-pub phy-of-spec : {M : Type 1} → statement M
-phy-of-spec = tie.close (tie.spec returns returns-2 returns-3 returns-4)
+returns c = rw (unknown _ c.if-mode-eq0.false c.if-mode-eq1.false c.if-mode-eq2.false)
