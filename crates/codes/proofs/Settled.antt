@@ -9,10 +9,10 @@ use Rattle.std.proofs.Common.{◌≡◌, ℕ, List, sym, ◌∙◌}
 use contract.Lifetimes.{Lfts}
 use denote.Triple.Clauses.{AtExit}
 use borrow.Fn.Kinds.{ParamKind, ResultKind, In, Out, Dens, res_t, ended_of}
-use Rattle.codes.proofs.phy_of.Kinds as phy-of-kinds
-use Rattle.codes.proofs.phy_of.Reads as phy-of-promise
-use Rattle.codes.proofs.gather.Kinds as gather-kinds
-use Rattle.codes.proofs.gather.Reads as gather-promise
+use Rattle.codes.proofs.phy_of.Kinds as phy_of_kinds
+use Rattle.codes.proofs.phy_of.Reads as phy_of_promise
+use Rattle.codes.proofs.gather.Kinds as gather_kinds
+use Rattle.codes.proofs.gather.Reads as gather_promise
 
 pub settled : {A : Type 0} {x : A} (p q : A) → p ≡ x → q ≡ x → p ≡ q
 settled p q e f = e ∙ sym f
@@ -39,14 +39,14 @@ AsksNothing n ps Pre = (κs : Lfts n) (a : Dens κs ps) → Pre κs a
 abbrev pub PassesOn : (n : ℕ) (ps : List (ParamKind n)) (r : ResultKind n) → Out n ps r → Out n ps r → Type 0
 PassesOn n ps r Post Below = (κs : Lfts n) (a : Dens κs ps) (p : (res_t r κs).Denot) (s : AtExit (ended_of n ps r) κs) → Post κs a p s → Below κs a p s
 
-pub phy_of_settled : Settles 0 phy-of-kinds.ps phy-of-kinds.r phy-of-promise.Post
+pub phy_of_settled : Settles 0 phy_of_kinds.ps phy_of_kinds.r phy_of_promise.Post
 phy_of_settled κs a p q s t = settled p q
 
-pub gather_settled : Settles 1 gather-kinds.ps gather-kinds.r gather-promise.Post
+pub gather_settled : Settles 1 gather_kinds.ps gather_kinds.r gather_promise.Post
 gather_settled κs a p q s t = settled p q
 
-pub phy_of_asks_nothing : AsksNothing 0 phy-of-kinds.ps phy-of-promise.Pre
+pub phy_of_asks_nothing : AsksNothing 0 phy_of_kinds.ps phy_of_promise.Pre
 phy_of_asks_nothing κs a = tt
 
-pub gather_asks_nothing : AsksNothing 1 gather-kinds.ps gather-promise.Pre
+pub gather_asks_nothing : AsksNothing 1 gather_kinds.ps gather_promise.Pre
 gather_asks_nothing κs a = tt
