@@ -1,0 +1,19 @@
+-- `by_bits` meets its contract: the bits still to come are those that the octet's rest begins with.
+-- Assumes nothing.
+use Rattle.std.proofs.Common.{◌≡◌, ◌-◌, sym, ◌∙◌, arith}
+use Rattle.frame.specs.Frame.{digits}
+use Rattle.fcs.specs.Fcs.{register_after}
+use Rattle.fcs.proofs.Register.{bit_enters}
+use Rattle.fcs.proofs.by_bits.Goals as goal
+
+pub loop-k-preserved : goal.loop-k-preserved
+loop-k-preserved c =
+    let l = c.loop-k in
+    (omega arith, l.invariant.1 ∙ rw c.enter-after.ensures (bit_enters l.k l.after l.rest (omega arith)))
+
+pub returns : goal.returns
+unfolding digits register_after
+returns c =
+    let l = c.loop-k in
+    let e : 8 - l.k ≡ 0 = omega arith in
+    sym (l.invariant.1 ∙ rw e)
