@@ -5,25 +5,25 @@ use contract.Lifetimes.{Lfts}
 use denote.Triple.Clauses.{AtExit}
 use borrow.Fn.Kinds.{Dens, res_t, ended_of}
 use Rattle.codes.proofs.Settled.{settled, Settles, AsksNothing}
-use Rattle.fcs.proofs.bitwise.Kinds as bitwise-kinds
-use Rattle.fcs.proofs.bitwise.Reads as bitwise-promise
-use Rattle.fcs.proofs.by_table.Kinds as by-table-kinds
-use Rattle.fcs.proofs.by_table.Reads as by-table-promise
+use Rattle.fcs.proofs.bitwise.Kinds as bitwise_kinds
+use Rattle.fcs.proofs.bitwise.Reads as bitwise_promise
+use Rattle.fcs.proofs.by_table.Kinds as by_table_kinds
+use Rattle.fcs.proofs.by_table.Reads as by_table_promise
 
-pub bitwise_settled : Settles 1 bitwise-kinds.ps bitwise-kinds.r bitwise-promise.Post
+pub bitwise_settled : Settles 1 bitwise_kinds.ps bitwise_kinds.r bitwise_promise.Post
 bitwise_settled κs a p q s t = settled p q
 
-pub by_table_settled : Settles 1 by-table-kinds.ps by-table-kinds.r by-table-promise.Post
+pub by_table_settled : Settles 1 by_table_kinds.ps by_table_kinds.r by_table_promise.Post
 by_table_settled κs a p q s t = settled p q
 
 -- what the one promises of octets, and what the other promises of the same octets, is one number
-pub both_equal : (κs : Lfts 1) (a : Dens κs bitwise-kinds.ps) (p q : (res_t bitwise-kinds.r κs).Denot)
-    (s t : AtExit (ended_of 1 bitwise-kinds.ps bitwise-kinds.r) κs)
-    → bitwise-promise.Post κs a p s → by-table-promise.Post κs a q t → p ≡ q
+pub both_equal : (κs : Lfts 1) (a : Dens κs bitwise_kinds.ps) (p q : (res_t bitwise_kinds.r κs).Denot)
+    (s t : AtExit (ended_of 1 bitwise_kinds.ps bitwise_kinds.r) κs)
+    → bitwise_promise.Post κs a p s → by_table_promise.Post κs a q t → p ≡ q
 both_equal κs a p q s t = settled p q
 
-pub bitwise_asks_nothing : AsksNothing 1 bitwise-kinds.ps bitwise-promise.Pre
+pub bitwise_asks_nothing : AsksNothing 1 bitwise_kinds.ps bitwise_promise.Pre
 bitwise_asks_nothing κs a = tt
 
-pub by_table_asks_nothing : AsksNothing 1 by-table-kinds.ps by-table-promise.Pre
+pub by_table_asks_nothing : AsksNothing 1 by_table_kinds.ps by_table_promise.Pre
 by_table_asks_nothing κs a = tt
