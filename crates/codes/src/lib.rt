@@ -70,7 +70,7 @@ pub struct Symbol {
 }
 
 // A radio's numbers, by value: what everything below `phy_of` goes by.
-#[derive(Drop)]
+#[derive(Clone, Copy)]
 pub struct Phy {
     // chips in a symbol; 0 where there is no radio
     pub size: usize,

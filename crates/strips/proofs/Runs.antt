@@ -4,7 +4,6 @@ use mathlib.Core.Path.{◌≡◌, refl, ap, sym, ◌∙◌}
 use mathlib.Core.Bool.{Bool, true, false}
 use mathlib.Core.List.{List, [], ◌∷◌}
 use Prim.Native.Nat.{ℕ, ◌+◌, ◌*◌, ◌/◌, ◌%◌, ◌^◌, ◌≤◌, ◌<◌}
-use native.Mathlib.Nat.{mul-le-mul_left}
 use native.Mathlib.Omega.{arith}
 use lib.ListN.{length, get_or, take, drop, set, replicate, length-set, get_or-replicate}
 use lib.Seq.{ext_get_or, get_or-set_same, get_or-set_other}
@@ -20,10 +19,9 @@ use Rattle.codes.specs.Gathered.{gathered, gathered_all, listed}
 use Rattle.codes.specs.Phy.{phy_of, no_phy, phy_at}
 use Rattle.strips.specs.Strip.{chip_of, flip_of, strip_chip, strip_at, row_by, row_at, Fits}
 use Rattle.codes.proofs.Tests.{by_test, not_both, both_true, every, each}
-use Rattle.codes.proofs.Rows.{row_in}
 use Rattle.codes.proofs.Chips.{window_chip}
 use Rattle.codes.proofs.Modes.{each_row, every_row, row_test, phy_known}
-use Rattle.codes.proofs.Gathering.{listed_long, listed_at, steps_le}
+use Rattle.codes.proofs.Gathering.{listed_long, listed_at}
 
 -- a strip has 128 chips
 pub strip_long : (mode : ℕ) → length (strip_at mode) ≡ 128
@@ -111,16 +109,7 @@ module _ (mode : ℕ) (p : Phy) (e : p ≡ phy_at mode) where
       (λ k. let q : p ≡ phy_of (radio_of mode) = e ∙ rw k in rw q (row_fits mode).0)
       (λ k. let q : p ≡ no_phy = e ∙ rw k in absurd (omega (arith, ap (λ (x : Phy). x.eights) q)))
 
--- a chip's place
-pub place_few : (p : Phy) → Fits p → (j : ℕ) → j < 8 * p.eights → (j / 8 * p.step ≤ 24) × (j / 8 * p.step ≤ j) × (j / 8 * p.lift ≤ 7)
-place_few p F j h =
-    let l : j / 8 < p.eights = omega arith in (
-      steps_le (j / 8) p.step (omega (arith, F.few)) F.near,
-      omega (arith, mul-le-mul_left (j / 8) F.near),
-      omega (arith, row_in (j / 8) p.eights p.lift l, F.lifted, F.low),
-    )
-
--- and a row's, where there is such a word
+-- a row's numbers, where there is such a word
 pub record Row (p : Phy) (v : ℕ) : Type 0 where
   pub some : 0 < p.values / 2
   pub half : 16 * p.eights * (v / (p.values / 2)) ≤ 64
