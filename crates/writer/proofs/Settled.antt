@@ -3,12 +3,12 @@
 -- nothing.
 use Rattle.codes.proofs.Settled.{settled, SettlesBoth, AsksNothing}
 use Rattle.frame.proofs.Settled.{same_outcome}
-use Rattle.writer.proofs.write.Kinds as write-kinds
-use Rattle.writer.proofs.write.Reads as write-promise
+use Rattle.writer.proofs.write.Kinds as write_kinds
+use Rattle.writer.proofs.write.Reads as write_promise
 
 -- `s.1.1.0` is the third parameter, the buffer, at exit
-pub write_settled : SettlesBoth 2 write-kinds.ps write-kinds.r write-promise.Post (λ κs s. s.1.1.0.now)
+pub write_settled : SettlesBoth 2 write_kinds.ps write_kinds.r write_promise.Post (λ κs s. s.1.1.0.now)
 write_settled κs a p q s t e f = same_outcome p q _ _ (settled _ _ e f)
 
-pub write_asks_nothing : AsksNothing 2 write-kinds.ps write-promise.Pre
+pub write_asks_nothing : AsksNothing 2 write_kinds.ps write_promise.Pre
 write_asks_nothing κs a = tt
