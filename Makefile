@@ -27,7 +27,7 @@
 # comparison/  a second implementation in C, compared with the library; seeded faults
 # measure/     speed against C, stack, sizes    tools/       what builds and installs
 
-# two `rt` at once would share target/; a file half made is none
+# two `rt` at once would wait for each other; a file half made is none
 .NOTPARALLEL:
 .DELETE_ON_ERROR:
 .PHONY: run send profile command check test lib shared install install-shared uninstall speed instructions clean help programs outside places always
@@ -59,12 +59,12 @@ CFLAGS = -std=c99 -O2 -Wall -Wextra -pedantic -Werror
 ARCHIVE = build/liblernazhup.a
 SHARED = build/liblernazhup.so
 SONAME = liblernazhup.so.$(firstword $(subst ., ,$(VERSION)))
-# the programs; the test has the library proved beside them, so that two crates are proved at a time
-CRATES = send bench
+# the proved programs
+PROGRAMS = send bench
 TOOLS = Makefile tools/cc tools/sanitizer-flags
 # what the archive is made of
 ROOMS = codes columns matching strips frame writer order steps reader receiver fcs checked gateway
-PROVED := $(shell find $(ROOMS:%=crates/%) -name '*.rt' -o -name '*.antt')
+PROVED := $(shell find $(ROOMS:%=crates/%) -path '*/out' -prune -o -name '*.rt' -print -o -name '*.antt' -print)
 COMPARED = compare compared_calls chip_cases octet_cases record_cases lent_memory printed_facts reference
 TIMED = usual_read best_read copying_write usual_fcs
 # programs of one file
@@ -98,11 +98,11 @@ profile:
 
 check:
 	@tools/kit-warning
-	@$(MAKE) --no-print-directory programs lib CRATES='$(CRATES) gateway'
+	@$(MAKE) --no-print-directory lib programs
 	@$(MAKE) --no-print-directory outside
 
 test: check
-	@rt ci
+	@tools/gate
 
 # every test from outside; each prints a line of counts, and fails where something is wrong. The
 # comparison and the fuzzer take one core for as long as all that stand before the faults, and run
@@ -138,20 +138,22 @@ speed: lib build/speed build/stack
 instructions: lib build/speed
 	@measure/instructions
 
-# proves what has changed and links the programs; quiet unless it fails
+# proves what has changed and links the programs, which runs each on no input; quiet unless it fails
 programs:
 	@mkdir -p build
-	@[ -f target/bin/bench ] || echo 'proving the programs and what they stand on: a minute or two the first time'
-	@rt check $(CRATES) >build/programs.log 2>&1 || { tail -n 20 build/programs.log >&2; exit 1; }
+	@[ -f build/bench ] || echo 'proving the programs and what they stand on: some minutes the first time'
+	@for name in $(PROGRAMS); do \
+	(cd crates/$$name && rt run </dev/null) >build/$$name.log 2>&1 && cp crates/$$name/out/$$name build/$$name || \
+	{ tail -n 20 build/$$name.log >&2; exit 1; }; done
 
 lib: $(ARCHIVE) build/lernazhup.h build/lernazhup.pc
 	@:
 
-# proved first; `rt ci` removes target/, hence the copy
+# proved first
 $(ARCHIVE): crates.txt $(PROVED) build/kit build/words.o
 	@mkdir -p build
-	@rt staticlib gateway >build/lib.log 2>&1 || { tail -n 20 build/lib.log >&2; exit 1; }
-	@cp target/staticlib/libgateway.a $@
+	@(cd crates/gateway && rt lib) >build/lib.log 2>&1 || { tail -n 20 build/lib.log >&2; exit 1; }
+	@cp crates/gateway/out/libgateway.a $@
 	@tools/binutils ar r $@ build/words.o
 
 build/words.o: library/words.c build/lernazhup.h $(TOOLS)
@@ -211,7 +213,7 @@ uninstall:
 	@tools/install remove
 
 clean:
-	@rm -rf build target
+	@rm -rf build crates/*/out
 
 help:
 	@sed -n '/^#/!q; s/^# \{0,1\}//p' Makefile
