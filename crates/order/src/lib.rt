@@ -6,7 +6,7 @@
 // What is carried from symbol to symbol: 13 while more is wanted, else 0 or the refusal; symbols
 // taken; n once it is read, 0 before; chips repaired; the last symbol's value; the octet in hand;
 // the smallest gap; the polarity.
-#[derive(Drop)]
+#[derive(Clone, Copy, Drop)]
 pub struct Hand {
     pub number: u32,
     pub taken: u32,
