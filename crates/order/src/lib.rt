@@ -2,11 +2,12 @@
 // the hand's numbers are those of the symbols before (proofs/Carried.antt), and that what follows
 // from them is what the reading order says of all of these (proofs/Turns.antt), are laws. What
 // makes one hand of another is the room `steps`.
+#![tactic(auto)]
 
 // What is carried from symbol to symbol: 13 while more is wanted, else 0 or the refusal; symbols
 // taken; n once it is read, 0 before; chips repaired; the last symbol's value; the octet in hand;
 // the smallest gap; the polarity.
-#[derive(Clone, Copy, Drop)]
+#[derive(Clone, Copy)]
 pub struct Hand {
     pub number: u32,
     pub taken: u32,
