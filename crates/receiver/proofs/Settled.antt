@@ -4,36 +4,36 @@
 -- Assumes nothing.
 use Rattle.codes.proofs.Settled.{settled, Settles, SettlesBoth, AsksNothing}
 use Rattle.frame.proofs.Settled.{same_outcome}
-use Rattle.receiver.proofs.Receiver.start.Kinds as start-kinds
-use Rattle.receiver.proofs.Receiver.start.Reads as start-promise
-use Rattle.receiver.proofs.Receiver.push.Kinds as push-kinds
-use Rattle.receiver.proofs.Receiver.push.Reads as push-promise
-use Rattle.receiver.proofs.Receiver.finish.Kinds as finish-kinds
-use Rattle.receiver.proofs.Receiver.finish.Reads as finish-promise
-use Rattle.receiver.proofs.Receiver.take.Kinds as take-kinds
-use Rattle.receiver.proofs.Receiver.take.Reads as take-promise
+use Rattle.receiver.proofs.Receiver.start.Kinds as start_kinds
+use Rattle.receiver.proofs.Receiver.start.Reads as start_promise
+use Rattle.receiver.proofs.Receiver.push.Kinds as push_kinds
+use Rattle.receiver.proofs.Receiver.push.Reads as push_promise
+use Rattle.receiver.proofs.Receiver.finish.Kinds as finish_kinds
+use Rattle.receiver.proofs.Receiver.finish.Reads as finish_promise
+use Rattle.receiver.proofs.Receiver.take.Kinds as take_kinds
+use Rattle.receiver.proofs.Receiver.take.Reads as take_promise
 
-pub start_settled : Settles 0 start-kinds.ps start-kinds.r start-promise.Post
+pub start_settled : Settles 0 start_kinds.ps start_kinds.r start_promise.Post
 start_settled κs a p q s t = settled p q
 
-pub push_settled : Settles 1 push-kinds.ps push-kinds.r push-promise.Post
+pub push_settled : Settles 1 push_kinds.ps push_kinds.r push_promise.Post
 push_settled κs a p q s t = settled p q
 
-pub finish_settled : Settles 0 finish-kinds.ps finish-kinds.r finish-promise.Post
+pub finish_settled : Settles 0 finish_kinds.ps finish_kinds.r finish_promise.Post
 finish_settled κs a p q s t = settled p q
 
 -- `s.1.0` is the second parameter, the report buffer, at exit
-pub take_settled : SettlesBoth 1 take-kinds.ps take-kinds.r take-promise.Post (λ κs s. s.1.0.now)
+pub take_settled : SettlesBoth 1 take_kinds.ps take_kinds.r take_promise.Post (λ κs s. s.1.0.now)
 take_settled κs a p q s t e f = same_outcome p q _ _ (settled _ _ e f)
 
-pub start_asks_nothing : AsksNothing 0 start-kinds.ps start-promise.Pre
+pub start_asks_nothing : AsksNothing 0 start_kinds.ps start_promise.Pre
 start_asks_nothing κs a = tt
 
-pub push_asks_nothing : AsksNothing 1 push-kinds.ps push-promise.Pre
+pub push_asks_nothing : AsksNothing 1 push_kinds.ps push_promise.Pre
 push_asks_nothing κs a = tt
 
-pub finish_asks_nothing : AsksNothing 0 finish-kinds.ps finish-promise.Pre
+pub finish_asks_nothing : AsksNothing 0 finish_kinds.ps finish_promise.Pre
 finish_asks_nothing κs a = tt
 
-pub take_asks_nothing : AsksNothing 1 take-kinds.ps take-promise.Pre
+pub take_asks_nothing : AsksNothing 1 take_kinds.ps take_promise.Pre
 take_asks_nothing κs a = tt

@@ -8,17 +8,17 @@ use native.Mathlib.Omega.{arith}
 use lib.Dec.{eqb, leb, ltb}
 use lib.ListN.{length, take}
 use lib.Seq.{length-take-le}
-use borrow.Author.Tests.{lt-ltb, le-ltb, le-leb, lt-leb, eq-eqb, ne_eqb, eqb-true, eqb-false, ltb-true, ltb-false, leb-true}
+use borrow.Author.Tests.{lt-ltb, le-ltb, le-leb, lt-leb, eq-eqb, ne_eqb, eqb-true, eqb-false, ltb-true, ltb-false}
 use Rattle.codes.specs.Numbers.{DONE, BADMODE, NOROOM, RUNOUT, ENDED, BADPART, NOTENDED, MORE, FORGED}
 use Rattle.codes.specs.Chips.{pick}
 use Rattle.codes.specs.Radio.{known, radio_of}
 use Rattle.codes.specs.Symbol.{symbol_of, match_of}
 use Rattle.codes.specs.Symbol as codes
-use Rattle.codes.specs.Phy.{phy_of, no_phy, phy_at}
+use Rattle.codes.specs.Phy.{phy_of, phy_at}
 use Rattle.codes.specs.declared.Phy.{Phy}
 use Rattle.codes.specs.declared.Symbol.{Symbol}
 use Rattle.codes.proofs.Tests.{by_test, not_both}
-use Rattle.codes.proofs.Modes.{row_test, phy_known}
+use Rattle.codes.proofs.Modes.{phy_known}
 use Rattle.frame.specs.Frame.{per_octet}
 use Rattle.frame.specs.Outcome.{outcome}
 use Rattle.codes.proofs.Unique.{symbol_numbers}
@@ -62,13 +62,6 @@ module _ (mode : ℕ) where
   pub start_unknown : known mode ≡ false → step BADMODE (fresh mode BADMODE) ≡ start_of mode
   unfolding start_of
   start_unknown k = rw k
-
--- no radio accepts a distance above 6
-pub limit_few : (mode : ℕ) (p : Phy) → p ≡ phy_at mode → p.limit ≤ 6
-unfolding phy_at
-limit_few mode p e = by_test (known mode)
-    (λ k. let q : p ≡ phy_of (radio_of mode) = e ∙ rw k in rw q (leb-true _ _ (row_test (λ r. leb r.limit 6) refl mode)))
-    (λ k. let q : p ≡ no_phy = e ∙ rw k in rw q (omega arith))
 
 -- one number is not below another
 not_below : (a b : ℕ) → leb b a ≡ not (ltb a b)

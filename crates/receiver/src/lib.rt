@@ -13,7 +13,7 @@ ghost use Rattle.receiver.specs.Record.{step, fresh, start_of, forged, hand_of, 
 
 // What a receiver is between two calls, in the order of the C interface.
 #[repr(C)]
-#[derive(Drop)]
+#[derive(Clone, Copy)]
 pub struct Receiver {
     // as given to start
     pub mode: u32,
