@@ -41,7 +41,7 @@ module _ (r : Radio) (ws : List (List ℕ)) where
 
   -- as many values as windows looked at
   pub values_long : (k : ℕ) → k ≤ length ws → length (values (take k (seen r ws))) ≡ k
-  values_long k h = carried.values-long (take k (seen r ws)) ∙ seen_front r ws k h
+  values_long k h = carried.values_long (take k (seen r ws)) ∙ seen_front r ws k h
 
   -- each is its symbol's
   pub values_at : (k j : ℕ) → k ≤ length ws → j < k → get_or (values (take k (seen r ws))) j 0 ≡ (symbol_of r (get_or ws j [])).value

@@ -132,7 +132,7 @@ module _ (r : Radio) (S : Sound r) (c : r.chained ≡ true) (o : Opposite r) whe
         rw e (ap (λ (vs : List ℕ). (1 - sent r last 0) ∷ vs) (encode_inverse (sent r last 0) (sent_low last 0) back back_below))
 
     turned_below : Below 2 (encode r last (0 ∷ back))
-    turned_below = rw two at (encode_below r S last (0 ∷ back) (rw two (omega arith, back_below)))
+    turned_below = rw two at (encode_below r S last (0 ∷ back) (rw two (omega arith), raws_below r report))
 
     pub turns_over : (take (47 * r.size) (frame_with r (formed 1 polarity) report) ≡ take (47 * r.size) (frame_with r (formed 0 polarity) report))
         × (drop (47 * r.size) (frame_with r (formed 1 polarity) report) ≡ inverse (drop (47 * r.size) (frame_with r (formed 0 polarity) report)))
