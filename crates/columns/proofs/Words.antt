@@ -190,10 +190,7 @@ module _ (half : ℕ) (e o : ℕ → ℕ) where
       let m : v - 8 + 8 ≡ v = omega arith in
       rw t (rw m at (q (v - 8) (omega arith)) ∙ omega arith))
 
--- counts of sixteen bits
-pub few : (x : ℕ) → x < 2 ^ 16 → ones x % 32 ≡ ones x
-few x h = omega (arith, ones-le 16 x h)
-
+-- counts of so many bits, and of sixteen
 pub parted_few : (k x pair v : ℕ) → x < 2 ^ k → turned_pair pair v < 2 ^ k → parted x pair v ≤ k
 unfolding parted
 parted_few k x pair v h l = ones-le k _ (xor_lt k x _ h l)

@@ -18,7 +18,7 @@ use Rattle.codes.specs.Symbol.{nearest_but, next_nearest}
 use Rattle.codes.specs.Near.{nearest_of, nearest_in}
 use Rattle.codes.proofs.Tests.{by_test, both_true, every, each}
 use Rattle.codes.proofs.Chips.{distance_both, xor_differ}
-use Rattle.codes.proofs.Packed.{packed_cong, packed_both, packed_lt, mask_digits, digit_lt, eight_sum}
+use Rattle.codes.proofs.Packed.{packed_cong, packed_both, mask_digits, digit_lt, eight_sum}
 use Rattle.codes.proofs.Gathering.{listed_long, listed_at, chip_in_lem, chips_in_lem}
 use Rattle.columns.proofs.Laid.{total, total_apart, distance_apart}
 use Rattle.codes.proofs.Leasts.{nearest_is, word_is, but_is}
@@ -32,12 +32,9 @@ inverted_test = refl
 inverted : (d : ℕ) → d ≤ 15 → bit_xor d 15 ≡ 15 - d
 inverted d h = eqb-true _ _ (each (λ d. eqb (bit_xor d 15) (15 - d)) 16 inverted_test d (omega arith))
 
--- the distance from the nearer of two words
-pub nearer_few : (d : ℕ) → d ≤ 15 → bit_xor d (d / 8 * 15) ≤ 15
-nearer_few d h =
-    by_test (ltb d 8)
-    (λ t. let z : d / 8 ≡ 0 = omega (arith, ltb-true d 8 t) in rw (z, xor_zero_r d) h)
-    (λ t. let o : d / 8 ≡ 1 = omega (arith, ltb-false d 8 t) in rw (o, inverted d h) (omega arith))
+-- an exclusive or of numbers of four bits has four bits
+pub four_bits : (x y : ℕ) → x ≤ 15 → y ≤ 15 → bit_xor x y ≤ 15
+four_bits x y h j = omega (arith, xor_lt 4 x y (omega arith) (omega arith))
 
 -- what masks leave of a byte
 mask_test : every (λ b. pick (eqb (bit_and b 1) (b % 2)) (eqb (bit_and b 16) (b / 16 % 2 * 16)) false) 256 ≡ true
@@ -111,9 +108,6 @@ module _ (x : ℕ) (fits : x < 2 ^ 64) where
       by_test (eqb j 0)
       (λ t. rw t (omega (arith, chip_in_lem (layout_of bpsk) x j)))
       (λ t. rw t (omega (arith, chip_in_lem (layout_of bpsk) x j, chip_in_lem (layout_of bpsk) x (7 + j))))
-
-  pub sum_fits : bit_and x 0x0101010101010101 + bit_and x 0x1010101010101000 / 16 < 2 ^ 64
-  sum_fits = rw sum_is (packed_lt added 8 (λ j l. omega (arith, added_le j)))
 
 -- word 0 among its gathered bits
 code_test : ℕ → Bool

@@ -1,13 +1,10 @@
 -- `keys` meets its contract: with each turn two keys more are those of the words, eight apart.
 -- Assumes nothing.
-use Rattle.std.proofs.Common.{◌≡◌, refl, arith, length-set}
+use Rattle.std.proofs.Common.{◌≡◌, arith, length-set}
 use Rattle.columns.specs.Columns.{parted, low_key, high_key}
 use Rattle.columns.proofs.Leasts.{lower_turn, upper_turn}
 use Rattle.columns.proofs.Words.{parted_is, low_is, high_is, keyed}
 use Rattle.columns.proofs.keys.Goals as goal
-
-pub loop-r-init : goal.loop-r-init
-loop-r-init c = (omega arith, λ u l. absurd (omega arith), λ u l. absurd (omega arith), refl)
 
 pub overflow_sub-k : goal.overflow_sub-k
 overflow_sub-k c =
