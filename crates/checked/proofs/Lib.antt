@@ -1,9 +1,8 @@
--- Laws of the profile's tests and what they catch, of the octets appended, and of the room; and the
--- rules of single reports, computed.
+-- Laws of the profile's tests and what they catch, and of the room; and the rules of single
+-- reports, computed.
 pub mod Tests
 pub mod Passing
 pub mod Caught
-pub mod Appended
 pub mod Writer
 pub mod Room
 pub mod Reader

@@ -91,7 +91,9 @@ fn all_zero(octets: &[u8]) -> bool
     true
 }
 
-// The report's octets and the two of its FCS, the low one first.
+// The report's octets and the two of its FCS, the low one first. That each of these fits an octet
+// is `fcs_below`: the register stays below 2^16.
+#[tactic(auto, using(fcs::proofs::Remainder::fcs_below))]
 fn with_fcs(report: &[u8]) -> [u8; 127]
     requires { length report.now ≤ 125 }
     ensures result_value { take (length report.now + 2) result ≡ with_fcs report.now }

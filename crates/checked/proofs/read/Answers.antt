@@ -1,6 +1,6 @@
 -- `read` meets its contract: a law for each of its three ways (Reader.antt). Assumes nothing.
 use Rattle.std.proofs.Common.{sym, length-take-le}
-use Rattle.checked.proofs.Reader.{lent, n_fits, as_plain, not_passed, passed}
+use Rattle.checked.proofs.Reader.{n_fits, as_plain, not_passed, passed}
 use Rattle.checked.proofs.read.Goals as goal
 
 pub returns-then-answer-ne-DONE : goal.returns-then-answer-ne-DONE

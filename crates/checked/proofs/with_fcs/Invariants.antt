@@ -1,4 +1,4 @@
--- As many octets as turns are the report's, and there are 127.
+-- A copy, turn by turn: as many octets as turns are the report's.
 use Rattle.std.proofs.Common.{◌≡◌, ◌-◌, ◌≤◌, length, take}
 use Rattle.checked.proofs.with_fcs.Given as goal
 
