@@ -1,6 +1,6 @@
 -- `scan` meets its contract: what is still to be read stays the reading's answer (Scanning.antt),
 -- and the bits are those of the eights so far (Gathering.antt of `codes`). Assumes nothing.
-use Rattle.std.proofs.Common.{refl, ap, ◌∙◌, arith}
+use Rattle.std.proofs.Common.{◌-◌, ◌≤◌, length, refl, ap, ◌∙◌, arith}
 use Rattle.codes.specs.Numbers.{NOCHIP}
 use Rattle.codes.proofs.Gathering.{loop_starts, loop_goes_on, loop_stops, loop_ends}
 use Rattle.frame.proofs.Modes.{row_size}
@@ -21,8 +21,9 @@ pub chips-preserved : goal.chips-preserved
 chips-preserved c =
     let a = c.args in
     let q = c.symbols in
+    let fits : c.phy_of-size.result.size ≤ length a.chips.now - q.at = omega arith in
     let size = row_size a.mode c.requires.0 _ c.phy_of-size.ensures in
-    let long = part_long a.mode c.requires.0 a.room a.chips.now q.octets q.hand q.at _ size q.invariant c.symbols-test.true _ refl in (
+    let long = part_long a.mode c.requires.0 a.room a.chips.now q.octets q.hand q.at _ size q.invariant fits _ refl in (
       c.chips.invariant.0,
       loop_goes_on a.mode c.requires.0 _ long _ c.chips-test.true _ c.chips.invariant.1 _ c.gather_eight-bits.ensures c.if-bits.false,
     )
@@ -44,12 +45,13 @@ pub symbols-preserved : goal.symbols-preserved
 symbols-preserved c =
     let a = c.args in
     let q = c.symbols in
+    let fits : c.phy_of-size.result.size ≤ length a.chips.now - q.at = omega arith in
     let size = row_size a.mode c.requires.0 _ c.phy_of-size.ensures in
-    let long = part_long a.mode c.requires.0 a.room a.chips.now q.octets q.hand q.at _ size q.invariant c.symbols-test.true _ refl in
+    let long = part_long a.mode c.requires.0 a.room a.chips.now q.octets q.hand q.at _ size q.invariant fits _ refl in
     let took = c.take_symbol-next.ensures
     ∙ ap (followed a.mode c.chips.hand) (loop_ends a.mode c.requires.0 _ long _ _ c.chips-test.false c.chips.invariant.1) in
     (turns a.mode c.requires.0 a.room a.chips.now q.octets c.chips.hand q.at _ size (rw c.chips.invariant.0 q.invariant)
-    c.symbols-test.true _ refl _ took _ c.settle-hand.ensures.value _ c.settle-hand.ensures.octets_after).0 c.if-hand-ne-MORE.false
+    fits _ refl _ took _ c.settle-hand.ensures.value _ c.settle-hand.ensures.octets_after).0 c.if-hand-ne-MORE.false
 
 pub returns-after-symbols : goal.returns-after-symbols
 returns-after-symbols c =
@@ -60,9 +62,10 @@ pub returns-then-bits : goal.returns-then-bits
 returns-then-bits c =
     let a = c.args in
     let q = c.symbols in
+    let fits : c.phy_of-size.result.size ≤ length a.chips.now - q.at = omega arith in
     let size = row_size a.mode c.requires.0 _ c.phy_of-size.ensures in
-    let long = part_long a.mode c.requires.0 a.room a.chips.now q.octets q.hand q.at _ size q.invariant c.symbols-test.true _ refl in
-    eights_stop a.mode c.requires.0 a.room a.chips.now q.octets q.hand q.at _ size q.invariant c.symbols-test.true _ refl
+    let long = part_long a.mode c.requires.0 a.room a.chips.now q.octets q.hand q.at _ size q.invariant fits _ refl in
+    eights_stop a.mode c.requires.0 a.room a.chips.now q.octets q.hand q.at _ size q.invariant fits _ refl
     (loop_stops a.mode c.requires.0 _ long _ c.chips-test.true _ c.chips.invariant.1 _ c.gather_eight-bits.ensures c.if-bits.true)
     _ (c.stop-hand.ensures ∙ ap (stopped NOCHIP) c.chips.invariant.0)
 
@@ -70,20 +73,22 @@ pub returns-then-next-ne-DONE : goal.returns-then-next-ne-DONE
 returns-then-next-ne-DONE c =
     let a = c.args in
     let q = c.symbols in
+    let fits : c.phy_of-size.result.size ≤ length a.chips.now - q.at = omega arith in
     let size = row_size a.mode c.requires.0 _ c.phy_of-size.ensures in
-    let long = part_long a.mode c.requires.0 a.room a.chips.now q.octets q.hand q.at _ size q.invariant c.symbols-test.true _ refl in
+    let long = part_long a.mode c.requires.0 a.room a.chips.now q.octets q.hand q.at _ size q.invariant fits _ refl in
     let took = c.take_symbol-next.ensures
     ∙ ap (followed a.mode c.chips.hand) (loop_ends a.mode c.requires.0 _ long _ _ c.chips-test.false c.chips.invariant.1) in
     refusal_ends a.mode c.requires.0 a.room a.chips.now q.octets c.chips.hand q.at _ size (rw c.chips.invariant.0 q.invariant)
-    c.symbols-test.true _ refl _ took c.if-next-ne-MORE.true c.if-next-ne-DONE.true _ c.stop-hand-then-next-ne-DONE.ensures
+    fits _ refl _ took c.if-next-ne-MORE.true c.if-next-ne-DONE.true _ c.stop-hand-then-next-ne-DONE.ensures
 
 pub returns-then-hand-ne-MORE : goal.returns-then-hand-ne-MORE
 returns-then-hand-ne-MORE c =
     let a = c.args in
     let q = c.symbols in
+    let fits : c.phy_of-size.result.size ≤ length a.chips.now - q.at = omega arith in
     let size = row_size a.mode c.requires.0 _ c.phy_of-size.ensures in
-    let long = part_long a.mode c.requires.0 a.room a.chips.now q.octets q.hand q.at _ size q.invariant c.symbols-test.true _ refl in
+    let long = part_long a.mode c.requires.0 a.room a.chips.now q.octets q.hand q.at _ size q.invariant fits _ refl in
     let took = c.take_symbol-next.ensures
     ∙ ap (followed a.mode c.chips.hand) (loop_ends a.mode c.requires.0 _ long _ _ c.chips-test.false c.chips.invariant.1) in
     (turns a.mode c.requires.0 a.room a.chips.now q.octets c.chips.hand q.at _ size (rw c.chips.invariant.0 q.invariant)
-    c.symbols-test.true _ refl _ took _ c.settle-hand.ensures.value _ c.settle-hand.ensures.octets_after).1 c.if-hand-ne-MORE.true
+    fits _ refl _ took _ c.settle-hand.ensures.value _ c.settle-hand.ensures.octets_after).1 c.if-hand-ne-MORE.true
