@@ -2,41 +2,49 @@
 // modes 0, 1 and 2 in that order, each with a report buffer of 127 bytes, and prints a line for
 // each: mode, number, place, n, count, gap. The text of all lines is made whole and written once:
 // `lines` promises every byte of it (specs/Lines.antt), and `main` only reads and writes. The
-// proofs go through because `io::decimal` promises a number's digits, `bytes::copy` a copy and the
-// reader its reading, because a number of 32 bits has at most ten digits (`few_digits`), so that
-// 198 bytes are room enough, and because each entry stands behind those before it
-// (proofs/Text.antt).
+// proofs go through because `itoa` promises a number's digits and the reader its reading, because a
+// number of 32 bits has at most ten digits (`few_digits`), so that 198 bytes are room enough, and
+// because each entry stands behind those before it (proofs/Text.antt).
 #![tactic(auto)]
 
-ghost use Rattle.std.specs.Prelude.{◌≡◌, ◌++◌, ◌+◌, ◌≤◌, length, take};
-ghost use Rattle.io.specs.Counts.{IsPrefixLen};
+ghost use Rattle.std.specs.Prelude.{◌≡◌, ◌++◌, ◌+◌, ◌≤◌, length, take, IfOk};
+ghost use Rattle.std.specs.Counts.{IsPrefixLen};
 ghost use Rattle.bench.specs.Lines.{most, entry, line_of, lines_of};
 
-use libc::{STDERR_FILENO, STDIN_FILENO, STDOUT_FILENO};
+use itoa::Buffer;
+use std::env::{Env, FillError};
+use std::io;
+use std::io::Read;
 
 // How many bytes of a capture are read.
 const MOST: usize = 15960;
 
-fn main() {
+// A failed read or write is told on standard error; where that fails too, nobody is left to tell.
+fn main(rt: HostRuntime) {
     // Who forgets the `<` before a file's name would otherwise be told of an empty capture.
-    if os::arg_count() > 1 {
-        io::write_all(
-            STDERR_FILENO,
-            b"bench takes no arguments: standard input is the capture\n",
-        );
+    if has_arguments(&rt) {
+        let _ = eprintln!(rt; "bench takes no arguments: standard input is the capture");
         return;
     }
     let mut chips = room();
-    let count = io::read_full(STDIN_FILENO, &mut chips);
-    if count < MOST && !ended() {
-        os::fail(b"standard input");
-        return;
-    }
+    let count = match read_all(&mut rt.stdin(), &mut chips) {
+        Ok(count) => count,
+        Err(error) => {
+            let _ = eprintln!(rt; "standard input: {error}");
+            return;
+        }
+    };
     let mut text = [0u8; 198];
     let length = lines(&chips[..count], &mut text);
-    if !io::write_all(STDOUT_FILENO, &text[..length]) {
-        os::fail(b"standard output");
+    if let Err(error) = rt.write_all(&text[..length]) {
+        let _ = eprintln!(rt; "standard output: {error}");
     }
+}
+
+// Whether there is an argument behind the program's name, of whatever length.
+fn has_arguments(rt: &impl Env) -> bool {
+    let mut first = [0u8; 1];
+    !matches!(rt.arg(1, &mut first), Err(FillError::NotPresent))
 }
 
 // Room for as much of a capture as is read.
@@ -46,12 +54,20 @@ fn room() -> [u8; MOST]
     [0; MOST]
 }
 
-// Whether the input has ended. `io::read_full` gives a short count where it has and also where a
-// read failed; one read more finds nothing only where it has. A capture cut short by a failed read
-// must not be answered.
-fn ended() -> bool {
-    let mut more = [0u8; 1];
-    libc::read(STDIN_FILENO, &mut more) == 0
+// Reads until the buffer is full or the input ends, and gives back how many bytes came. A read that
+// fails is an error, whatever came before it: a capture cut short by it must not be answered.
+fn read_all<R: Read>(input: &mut R, buffer: &mut [u8]) -> io::Result<usize>
+    ensures { IfOk result (λ count. count ≤ length buffer.new) }
+{
+    let mut count: usize = 0;
+    while count < buffer.len() {
+        let more = input.read(&mut buffer[count..])?;
+        if more == 0 {
+            break;
+        }
+        count += more;
+    }
+    Ok(count)
 }
 
 // The lines of a capture, a mode each, at the front of the lent text. Gives back how many bytes
@@ -89,10 +105,10 @@ fn put(text: &mut [u8], at: usize, n: u32, after: u8) -> usize
     ensures upper_bound { result ≤ at + 11 }
     ensures text_after { take result text.new ≡ take at text.old ++ entry n after }
 {
-    let mut digits = [0u8; 20];
-    let k = io::decimal(n as u64, &mut digits);
-    bytes::copy(&digits[..k], &mut text[at..]);
-    let end = at + k;
+    let mut buffer = Buffer::new();
+    let digits = buffer.format(n).as_bytes();
+    let end = at + digits.len();
+    text[at..end].copy_from_slice(digits);
     text[end] = after;
     end + 1
 }

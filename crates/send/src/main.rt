@@ -9,66 +9,67 @@ ghost use Rattle.frame.specs.Outcome.{outcome};
 ghost use Rattle.send.specs.Mode.{none, mode_of};
 ghost use Rattle.send.specs.Option.{is_option, written_as};
 
-use libc::{STDERR_FILENO, STDIN_FILENO, STDOUT_FILENO};
+use std::env::{Env, FillError};
+use std::io;
+use std::io::Read;
 
-// How many octets came, and whether a read failed before the input ended.
+// How many octets came, and why a read failed before the input ended, if one did.
 #[derive(Drop)]
 struct Input {
     octets: usize,
-    failed: bool,
+    failed: Option<io::Error>,
 }
 
-fn main() {
-    let checked = asked_checked();
-    let mode = asked_mode(checked);
+// A failed read or write is told on standard error; where that fails too, nobody is left to tell.
+fn main(rt: HostRuntime) {
+    let checked = asked_checked(&rt);
+    let mode = asked_mode(&rt, checked);
     // Told before anything is read, so that nobody types a report in vain.
     if codes::phy_of(mode).size == 0 {
-        complain(codes::BADMODE, checked);
+        let _ = complain(&rt, codes::BADMODE, checked);
         return;
     }
     // One octet more than a report may have, so that a longer one is refused and not cut.
     let mut report = [0u8; 128];
-    let input = read_all(&mut report);
-    if input.failed {
-        os::fail(b"standard input");
+    let input = read_all(&mut rt.stdin(), &mut report);
+    if let Some(error) = input.failed {
+        let _ = eprintln!(rt; "standard input: {error}");
         return;
     }
     let octets = input.octets;
     let mut chips = buffer();
     let written = write(checked, mode, &report[..octets], &mut chips);
     if written.number != codes::DONE {
-        complain(written.number, checked);
+        let _ = complain(&rt, written.number, checked);
         return;
     }
     let count = written.chips as usize;
-    if !io::write_all(STDOUT_FILENO, &chips[..count]) {
-        os::fail(b"standard output");
+    if let Err(error) = rt.write_all(&chips[..count]) {
+        let _ = eprintln!(rt; "standard output: {error}");
     }
 }
 
-// Reads until the buffer is full, the input ends or a read fails. (`io::read_full` does not tell
-// the last two apart, and a report cut short by a failed read must not be sent.)
-fn read_all(buffer: &mut [u8]) -> Input
+// Reads until the buffer is full, the input ends or a read fails. The last two are told apart: a
+// report cut short by a failed read must not be sent.
+fn read_all<R: Read>(input: &mut R, buffer: &mut [u8]) -> Input
     ensures { result.octets ≤ length buffer.new }
 {
     let mut octets: usize = 0;
     while octets < buffer.len() {
-        let got = libc::read(STDIN_FILENO, &mut buffer[octets..]);
-        if got < 0 {
-            return Input {
-                octets,
-                failed: true,
-            };
+        match input.read(&mut buffer[octets..]) {
+            Ok(0) => break,
+            Ok(more) => octets += more,
+            Err(error) => {
+                return Input {
+                    octets,
+                    failed: Some(error),
+                };
+            }
         }
-        let more = io::count(got, &buffer[octets..]);
-        if more == 0 {
-            break;
-        }
-        octets += more;
     }
     Input {
         octets,
-        failed: false,
+        failed: None,
     }
 }
 
@@ -91,9 +92,9 @@ fn buffer() -> [u8; 15960]
 }
 
 // Whether the first argument is the option.
-fn asked_checked() -> bool {
+fn asked_checked(rt: &impl Env) -> bool {
     let mut text = [0u8; 64];
-    let length = os::arg(1, &mut text);
+    let length = rt.arg(1, &mut text).unwrap_or(0);
     is_option(&text[..length])
 }
 
@@ -108,13 +109,13 @@ fn is_option(text: &[u8]) -> bool
 }
 
 // The mode that the last argument names. With one too few or too many there is none.
-fn asked_mode(checked: bool) -> u32 {
+fn asked_mode(rt: &impl Env, checked: bool) -> u32 {
     let last = last_argument(checked);
-    if os::arg_count() != last + 1 {
+    let mut text = [0u8; 64];
+    if !matches!(rt.arg(last + 1, &mut text), Err(FillError::NotPresent)) {
         return u32::MAX;
     }
-    let mut text = [0u8; 64];
-    let length = os::arg(last, &mut text);
+    let length = rt.arg(last, &mut text).unwrap_or(0);
     mode_of(&text[..length])
 }
 
@@ -155,23 +156,23 @@ fn capped(x: u64) -> u64
 }
 
 // The writers' refusals, in the words of the numbers given back.
-fn complain(number: u32, checked: bool) {
-    io::print_decimal(STDERR_FILENO, number as u64);
+fn complain(rt: &impl Eprint, number: u32, checked: bool) -> io::Result<()> {
+    eprint!(rt; "{number}")?;
     if number == codes::BADMODE {
-        io::write_all(STDERR_FILENO, b" mode above 2\n");
+        eprintln!(rt; " mode above 2")?;
     }
     if number == codes::TOOLONG {
-        io::write_all(STDERR_FILENO, b" report longer than ");
-        io::print_decimal(STDERR_FILENO, if checked { 125 } else { 127 });
-        io::write_all(STDERR_FILENO, b"\n");
+        let most = if checked { 125u8 } else { 127 };
+        eprintln!(rt; " report longer than {most}")?;
     }
     if number == codes::NOROOM {
-        io::write_all(STDERR_FILENO, b" lent buffer too short\n");
+        eprintln!(rt; " lent buffer too short")?;
     }
     if number == codes::TOOFEW {
-        io::write_all(STDERR_FILENO, b" too few octets\n");
+        eprintln!(rt; " too few octets")?;
     }
     if number == codes::ALLZERO {
-        io::write_all(STDERR_FILENO, b" every octet 0\n");
+        eprintln!(rt; " every octet 0")?;
     }
+    Ok(())
 }
