@@ -143,8 +143,8 @@ programs:
 	@mkdir -p build
 	@[ -f build/bench ] || echo 'proving the programs and what they stand on: some minutes the first time'
 	@for name in $(PROGRAMS); do \
-	(cd crates/$$name && rt run </dev/null) >build/$$name.log 2>&1 && cp crates/$$name/out/$$name build/$$name || \
-	{ tail -n 20 build/$$name.log >&2; exit 1; }; done
+	(cd crates/$$name && rt run </dev/null) >build/programs.log 2>&1 && cp crates/$$name/out/$$name build/$$name || \
+	{ tail -n 20 build/programs.log >&2; exit 1; }; done
 
 lib: $(ARCHIVE) build/lernazhup.h build/lernazhup.pc
 	@:
