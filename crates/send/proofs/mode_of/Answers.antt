@@ -15,13 +15,13 @@ returns-then-digit-lt48 c = below c.args.text.now _ _ c.loop-i.invariant.2 c.loo
 
 pub returns-then-digit-gt57 : goal.returns-then-digit-gt57
 returns-then-digit-gt57 c =
-    above c.args.text.now _ _ c.loop-i.invariant.2 c.loop-i-test.true c.if-digit-lt48.false c.if-digit-gt57.true
+    above c.args.text.now _ _ c.loop-i.invariant.2 c.loop-i-test.true c.if-digit-lt48.false (omega arith)
 
 pub loop-i-preserved : goal.loop-i-preserved
 loop-i-preserved c = (
   omega arith,
   omega (arith, c.capped-mode.ensures),
-  digit c.args.text.now _ _ c.loop-i.invariant.2 c.loop-i-test.true c.if-digit-lt48.false _ c.if-digit-gt57.false c.capped-mode.ensures,
+  digit c.args.text.now _ _ c.loop-i.invariant.2 c.loop-i-test.true c.if-digit-lt48.false _ (omega arith) c.capped-mode.ensures,
 )
 
 pub returns : goal.returns
