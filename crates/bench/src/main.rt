@@ -27,13 +27,18 @@ fn main(rt: HostRuntime) {
         return;
     }
     let mut chips = room();
-    let count = match read_all(&mut rt.stdin(), &mut chips) {
+    let mut input = rt.stdin();
+    let count = match read_all(&mut input, &mut chips) {
         Ok(count) => count,
         Err(error) => {
             let _ = eprintln!(rt; "standard input: {error}");
             return;
         }
     };
+    if count < MOST && !ended(&mut input) {
+        let _ = eprintln!(rt; "standard input: more came behind its end");
+        return;
+    }
     let mut text = [0u8; 198];
     let length = lines(&chips[..count], &mut text);
     if let Err(error) = rt.write_all(&text[..length]) {
@@ -68,6 +73,13 @@ fn read_all<R: Read>(input: &mut R, buffer: &mut [u8]) -> io::Result<usize>
         count += more;
     }
     Ok(count)
+}
+
+// Whether the input has ended: one read more finds nothing only where it has. What grows meanwhile
+// must not be answered.
+fn ended<R: Read>(input: &mut R) -> bool {
+    let mut more = [0u8; 1];
+    matches!(input.read(&mut more), Ok(0))
 }
 
 // The lines of a capture, a mode each, at the front of the lent text. Gives back how many bytes
