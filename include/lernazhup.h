@@ -92,8 +92,8 @@
  * written, and what the polarity is. What comes of a front end that turns over within a frame, null
  * pointers, the layout of the structs, the stack (under 4 KiB a call), the lack of allocation and
  * what is written in C are tested. How to search a stream is advice: the example gateway runs it,
- * and no theorem is about it. The library is for x86-64. The rules on buffers are checked by
- * nothing: they are yours to keep. */
+ * and no theorem is about it. The library is for x86-64-v2, that is x86-64 with SSE4.2. The rules
+ * on buffers are checked by nothing: they are yours to keep. */
 #ifndef LERNAZHUP_H
 #define LERNAZHUP_H
 
