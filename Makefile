@@ -181,10 +181,10 @@ build/fuzz_command build/drawn_captures: build/%: %.c made_captures.c tests/made
 shared: $(SHARED) build/lernazhup.h
 	@:
 
-# a program linked with it asks for the soname
+# a program linked with it asks for the soname; a copy, since `rt ci` refuses links
 $(SHARED): $(ARCHIVE) library/names $(TOOLS)
 	@$(CC) -shared -Wl,-soname,$(SONAME) -Wl,--version-script=library/names -Wl,-z,defs -Wl,--whole-archive $(ARCHIVE) -Wl,--no-whole-archive -o $@
-	@ln -sf $(notdir $@) build/$(SONAME)
+	@cp --remove-destination $@ build/$(SONAME)
 
 # another kit makes another archive
 build/kit: always
