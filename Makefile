@@ -7,7 +7,7 @@
 # make check      programs, library and tests from outside: two or three minutes, less where all
 #                 is proved already; SEED=.. and CASES=.. repeat a comparison, SEED=.. the fuzzer
 #                 and the pictures drawn at random
-# make test       the gate: make check, then every proof from nothing (`rt ci`)
+# make test       the gate: make check, then every proof (`rt ci`)
 # make lib        build/liblernazhup.a, build/lernazhup.h and build/lernazhup.pc, for C
 # make shared     build/liblernazhup.so
 # make install    what `make lib` builds, and the command with its manual page and completion, under
@@ -16,7 +16,7 @@
 # make uninstall  takes all that away from there
 # make speed      times against C, stack and sizes
 # make instructions  the library against C in instructions, by an emulator: some minutes
-# make clean      removes all that was built, and what `rt` keeps of its proofs
+# make clean      removes all that was built, and what `rt` keeps in the crates
 # make help       these lines
 #
 # captures/    raw captures to try              include/     the header
@@ -140,10 +140,10 @@ instructions: lib build/speed
 
 # proves what has changed and links the programs, which runs each on no input; quiet unless it fails
 programs:
-	@mkdir -p build
-	@[ -f build/bench ] || echo 'proving the programs and what they stand on: some minutes the first time'
+	@mkdir -p build/proved
+	@[ -f build/proved/bench ] || echo 'proving the programs and what they stand on: some minutes the first time'
 	@for name in $(PROGRAMS); do \
-	(cd crates/$$name && rt run </dev/null) >build/programs.log 2>&1 && cp crates/$$name/out/$$name build/$$name || \
+	(cd crates/$$name && rt run </dev/null) >build/programs.log 2>&1 && cp crates/$$name/out/$$name build/proved || \
 	{ tail -n 20 build/programs.log >&2; exit 1; }; done
 
 lib: $(ARCHIVE) build/lernazhup.h build/lernazhup.pc

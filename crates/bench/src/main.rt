@@ -7,7 +7,7 @@
 // because each entry stands behind those before it (proofs/Text.antt).
 #![tactic(auto)]
 
-ghost use Rattle.std.specs.Prelude.{◌≡◌, ◌++◌, ◌+◌, ◌≤◌, length, take, IfOk};
+ghost use Rattle.std.specs.Prelude.{◌≡◌, ◌++◌, ◌+◌, ◌≤◌, length, take, IfOk, IfSome};
 ghost use Rattle.std.specs.Counts.{IsPrefixLen};
 ghost use Rattle.bench.specs.Lines.{most, entry, line_of, lines_of};
 
@@ -27,18 +27,17 @@ fn main(rt: HostRuntime) {
         return;
     }
     let mut chips = room();
-    let mut input = rt.stdin();
-    let count = match read_all(&mut input, &mut chips) {
-        Ok(count) => count,
+    let count = match capture(&mut rt.stdin(), &mut chips) {
+        Ok(Some(count)) => count,
+        Ok(None) => {
+            let _ = eprintln!(rt; "standard input: more came behind its end");
+            return;
+        }
         Err(error) => {
             let _ = eprintln!(rt; "standard input: {error}");
             return;
         }
     };
-    if count < MOST && !ended(&mut input) {
-        let _ = eprintln!(rt; "standard input: more came behind its end");
-        return;
-    }
     let mut text = [0u8; 198];
     let length = lines(&chips[..count], &mut text);
     if let Err(error) = rt.write_all(&text[..length]) {
@@ -59,6 +58,18 @@ fn room() -> [u8; MOST]
     [0; MOST]
 }
 
+// How many bytes of a capture came, up to as many as there is room for; none where more came behind
+// its end, since what grows meanwhile must not be answered.
+fn capture<R: Read>(input: &mut R, buffer: &mut [u8]) -> io::Result<Option<usize>>
+    ensures { IfOk result (λ came. IfSome came (λ count. count ≤ length buffer.new)) }
+{
+    let count = read_all(input, buffer)?;
+    if count < buffer.len() && !ended(input)? {
+        return Ok(None);
+    }
+    Ok(Some(count))
+}
+
 // Reads until the buffer is full or the input ends, and gives back how many bytes came. A read that
 // fails is an error, whatever came before it: a capture cut short by it must not be answered.
 fn read_all<R: Read>(input: &mut R, buffer: &mut [u8]) -> io::Result<usize>
@@ -75,11 +86,10 @@ fn read_all<R: Read>(input: &mut R, buffer: &mut [u8]) -> io::Result<usize>
     Ok(count)
 }
 
-// Whether the input has ended: one read more finds nothing only where it has. What grows meanwhile
-// must not be answered.
-fn ended<R: Read>(input: &mut R) -> bool {
+// Whether the input has ended: one read more finds nothing only where it has.
+fn ended<R: Read>(input: &mut R) -> io::Result<bool> {
     let mut more = [0u8; 1];
-    matches!(input.read(&mut more), Ok(0))
+    Ok(input.read(&mut more)? == 0)
 }
 
 // The lines of a capture, a mode each, at the front of the lent text. Gives back how many bytes
