@@ -4,7 +4,7 @@
 # make command    build/lernazhup, the command for the bench
 # make send       a report to a raw capture: MODE=0, 1 or 2, PROFILE=plain or checked (the
 #                 environment's too), REPORT=file, OUT=file
-# make check      programs, library and tests from outside: two or three minutes, less where all
+# make check      programs, library and tests from outside: four or five minutes, less where all
 #                 is proved already; SEED=.. and CASES=.. repeat a comparison, SEED=.. the fuzzer
 #                 and the pictures drawn at random
 # make test       the gate: make check, then every proof (`rt ci`)
