@@ -2,47 +2,65 @@
 // modes 0, 1 and 2 in that order, each with a report buffer of 127 bytes, and prints a line for
 // each: mode, number, place, n, count, gap. The text of all lines is made whole and written once:
 // `lines` promises every byte of it (specs/Lines.antt), and `main` only reads and writes. The
-// proofs go through because `itoa` promises a number's digits and the reader its reading, because a
-// number of 32 bits has at most ten digits (`few_digits`), so that 198 bytes are room enough, and
-// because each entry stands behind those before it (proofs/Text.antt).
+// proofs go through because `itoa` promises a number's digits, of one of 32 bits at most ten, so
+// that 198 bytes are room enough, and the reader its reading.
 #![tactic(auto)]
 
-ghost use Rattle.std.specs.Prelude.{◌≡◌, ◌++◌, ◌+◌, ◌≤◌, length, take, IfOk, IfSome};
-ghost use Rattle.std.specs.Counts.{IsPrefixLen};
+ghost use Rattle.std.specs.Prelude.{◌≡◌, ◌++◌, ◌+◌, ◌<◌, ◌≤◌, length};
 ghost use Rattle.bench.specs.Lines.{most, entry, line_of, lines_of};
 
+use arrayvec::ArrayString;
 use itoa::Buffer;
 use std::env::{Env, FillError};
-use std::io;
 use std::io::Read;
+use std::{fmt, io};
 
-// How many bytes of a capture are read.
+// How many bytes of a capture are read. Each program's own number: a public constant would be a
+// line more in a library, and none less here.
 const MOST: usize = 15960;
 
-// A failed read or write is told on standard error; where that fails too, nobody is left to tell.
+// Room for three lines of six numbers, each of at most ten digits and a byte after them.
+type Text = ArrayString<198>;
+
+// Why no line is printed. `send` has a `Failure` of other kinds. What the two programs share, its
+// shape and the few lines of `main`, is too little for a crate of a public trait and a function.
+#[derive(Drop)]
+enum Failure {
+    Arguments,
+    Grown,
+    Input(io::Error),
+    Output(io::Error),
+}
+
+impl fmt::Display for Failure {
+    fn fmt<W: fmt::Write>(&self, f: &mut fmt::Formatter<W>) -> fmt::Result {
+        match self {
+            Failure::Arguments => {
+                f.write_str("bench takes no arguments: standard input is the capture")
+            }
+            Failure::Grown => f.write_str("standard input: more came behind its end"),
+            Failure::Input(error) => write!(f, "standard input: {error}"),
+            Failure::Output(error) => write!(f, "standard output: {error}"),
+        }
+    }
+}
+
+// A failure is told on standard error; where that fails too, nobody is left to tell.
 fn main(rt: HostRuntime) {
+    if let Err(failure) = bench(&rt) {
+        let _ = eprintln!(rt; "{failure}");
+    }
+}
+
+fn bench(rt: &HostRuntime) -> Result<(), Failure> {
     // Who forgets the `<` before a file's name would otherwise be told of an empty capture.
-    if has_arguments(&rt) {
-        let _ = eprintln!(rt; "bench takes no arguments: standard input is the capture");
-        return;
+    if has_arguments(rt) {
+        return Err(Failure::Arguments);
     }
     let mut chips = room();
-    let count = match capture(&mut rt.stdin(), &mut chips) {
-        Ok(Some(count)) => count,
-        Ok(None) => {
-            let _ = eprintln!(rt; "standard input: more came behind its end");
-            return;
-        }
-        Err(error) => {
-            let _ = eprintln!(rt; "standard input: {error}");
-            return;
-        }
-    };
-    let mut text = [0u8; 198];
-    let length = lines(&chips[..count], &mut text);
-    if let Err(error) = rt.write_all(&text[..length]) {
-        let _ = eprintln!(rt; "standard output: {error}");
-    }
+    let text = lines(capture(&mut rt.stdin(), &mut chips)?);
+    rt.write_all(text.as_str().as_bytes())
+        .map_err(Failure::Output)
 }
 
 // Whether there is an argument behind the program's name, of whatever length.
@@ -51,30 +69,30 @@ fn has_arguments(rt: &impl Env) -> bool {
     !matches!(rt.arg(1, &mut first), Err(FillError::NotPresent))
 }
 
-// Room for as much of a capture as is read.
+// Room for as much of a capture as is read. A function for its promise, that there are `most` bytes
+// of it: of an array made in `bench`, one byte too short, nothing would be refused.
 fn room() -> [u8; MOST]
     ensures { most ≡ length result }
 {
     [0; MOST]
 }
 
-// How many bytes of a capture came, up to as many as there is room for; none where more came behind
-// its end, since what grows meanwhile must not be answered.
-fn capture<R: Read>(input: &mut R, buffer: &mut [u8]) -> io::Result<Option<usize>>
-    ensures { IfOk result (λ came. IfSome came (λ count. count ≤ length buffer.new)) }
-{
-    let count = read_all(input, buffer)?;
-    if count < buffer.len() && !ended(input)? {
-        return Ok(None);
+// The bytes of a capture, up to as many as there is room for. Where more came behind its end it has
+// grown meanwhile, and must not be answered.
+fn capture<'a, R: Read>(input: &mut R, buffer: &'a mut [u8]) -> Result<&'a [u8], Failure> {
+    let room = buffer.len();
+    let chips = read_all(input, buffer).map_err(Failure::Input)?;
+    if chips.len() < room && !ended(input).map_err(Failure::Input)? {
+        return Err(Failure::Grown);
     }
-    Ok(Some(count))
+    Ok(chips)
 }
 
-// Reads until the buffer is full or the input ends, and gives back how many bytes came. A read that
-// fails is an error, whatever came before it: a capture cut short by it must not be answered.
-fn read_all<R: Read>(input: &mut R, buffer: &mut [u8]) -> io::Result<usize>
-    ensures { IfOk result (λ count. count ≤ length buffer.new) }
-{
+// Reads until the buffer is full or the input ends, and gives back what came. A read that fails is
+// an error, whatever came before it: a capture cut short by it must not be answered. Not std's
+// `io::copy`, which tries an interrupted read again and promises no count; and `send` has the
+// same, since a library's public functions settle what they give back (tests/contracts-test).
+fn read_all<'a, R: Read>(input: &mut R, buffer: &'a mut [u8]) -> io::Result<&'a [u8]> {
     let mut count: usize = 0;
     while count < buffer.len() {
         let more = input.read(&mut buffer[count..])?;
@@ -83,7 +101,7 @@ fn read_all<R: Read>(input: &mut R, buffer: &mut [u8]) -> io::Result<usize>
         }
         count += more;
     }
-    Ok(count)
+    Ok(&buffer[..count])
 }
 
 // Whether the input has ended: one read more finds nothing only where it has.
@@ -92,45 +110,43 @@ fn ended<R: Read>(input: &mut R) -> io::Result<bool> {
     Ok(input.read(&mut more)? == 0)
 }
 
-// The lines of a capture, a mode each, at the front of the lent text. Gives back how many bytes
-// they have.
-fn lines(chips: &[u8], text: &mut [u8]) -> usize
-    requires { 198 ≤ length text.old }
-    ensures prefix_len { IsPrefixLen result text.new }
-    ensures text_after { take result text.new ≡ lines_of chips.now }
+// The lines of a capture, a mode each: three calls, as `lines_of` has three terms and the edits
+// `modes_other_order` and `two_lines` have it; a `for` would need an invariant over modes besides.
+fn lines(chips: &[u8]) -> Text
+    ensures { result.bytes ≡ lines_of chips.now }
 {
-    let one = line(0, chips, text, 0);
-    let two = line(1, chips, text, one);
-    line(2, chips, text, two)
+    let mut text = Text::new();
+    line(0, chips, &mut text);
+    line(1, chips, &mut text);
+    line(2, chips, &mut text);
+    text
 }
 
-// The line of one mode, behind the first `at` bytes of the text. Gives back where it ends.
-fn line(mode: u32, chips: &[u8], text: &mut [u8], at: usize) -> usize
-    requires { at + 66 ≤ length text.old }
-    ensures upper_bound { result ≤ at + 66 }
-    ensures text_after { take result text.new ≡ take at text.old ++ line_of mode chips.now }
+// The line of one mode, behind the text before it.
+fn line(mode: u32, chips: &[u8], text: &mut Text)
+    requires { length text.old.bytes + 66 ≤ 198 }
+    ensures upper_bound { length text.new.bytes ≤ length text.old.bytes + 66 }
+    ensures text_after { text.new.bytes ≡ text.old.bytes ++ line_of mode chips.now }
 {
     let mut report = [0u8; 127];
     let reading = reader::read(mode, chips, &mut report);
-    let one = put(text, at, mode, b' ');
-    let two = put(text, one, reading.number, b' ');
-    let three = put(text, two, reading.place, b' ');
-    let four = put(text, three, reading.n, b' ');
-    let five = put(text, four, reading.count, b' ');
-    put(text, five, reading.gap, b'\n')
+    // Not one `write!`, which promises the bytes of an `Ok` only: `lines` would promise less by it.
+    put(text, mode, ' ');
+    put(text, reading.number, ' ');
+    put(text, reading.place, ' ');
+    put(text, reading.n, ' ');
+    put(text, reading.count, ' ');
+    put(text, reading.gap, '\n');
 }
 
-// A number in decimal and the byte after it, behind the first `at` bytes of the text. Gives back
-// where they end.
-fn put(text: &mut [u8], at: usize, n: u32, after: u8) -> usize
-    requires { at + 11 ≤ length text.old }
-    ensures upper_bound { result ≤ at + 11 }
-    ensures text_after { take result text.new ≡ take at text.old ++ entry n after }
+// A number in decimal and the byte after it, behind the text before them.
+fn put(text: &mut Text, n: u32, after: char)
+    requires room { length text.old.bytes + 11 ≤ 198 }
+    requires ascii { after < 128 }
+    ensures upper_bound { length text.new.bytes ≤ length text.old.bytes + 11 }
+    ensures text_after { text.new.bytes ≡ text.old.bytes ++ entry n after }
 {
     let mut buffer = Buffer::new();
-    let digits = buffer.format(n).as_bytes();
-    let end = at + digits.len();
-    text[at..end].copy_from_slice(digits);
-    text[end] = after;
-    end + 1
+    text.push_str(buffer.format(n));
+    text.push(after);
 }

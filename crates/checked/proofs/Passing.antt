@@ -48,15 +48,16 @@ with_right octets =
 -- and octets that have a right one are such
 pub right_with : (octets : List ℕ) → Below 256 octets → 3 ≤ length octets → right_fcs octets ≡ true → octets ≡ with_fcs (body octets)
 right_with octets p h e =
+    let two : 2 ≤ length octets = omega arith in
     let k = length octets - 2 in
     let a = get_or octets k 0 in
     let b = get_or octets (k + 1) 0 in
     let f = fcs_of (body octets) in
-    let v : a + 256 * b ≡ f = sym (last_two octets h) ∙ eqb-true (value_of 256 (drop k octets)) f e in
+    let v : a + 256 * b ≡ f = sym (last_two octets two) ∙ eqb-true (value_of 256 (drop k octets)) f e in
     let l : a < 256 = below_at 256 octets p k (omega arith) in
     let lo : a ≡ f % 256 = omega (arith, v, l) in
     let hi : b ≡ f / 256 = omega (arith, v, l) in
-    sym (take-append-drop k octets) ∙ rw (last_pair octets h, lo, hi)
+    sym (take-append-drop k octets) ∙ rw (last_pair octets two, lo, hi)
 
 -- two zeros more
 zeros_more : (n : ℕ) (two : List ℕ) → two ≡ 0 ∷ 0 ∷ [] → replicate n 0 ++ two ≡ replicate (n + 2) 0
@@ -102,13 +103,14 @@ not_zeros octets e q = not_both (all_zero octets) (ap all_zero q ∙ are_zeros (
 pub body_not_zeros : (octets : List ℕ) → check_of octets ≡ DONE → body octets ≡ replicate (length octets - 2) 0 → ⊥
 body_not_zeros octets e q =
     let c = check_parts octets e in
+    let two : 2 ≤ length octets = omega (arith, c.0) in
     let k = length octets - 2 in
     let n : k + 2 ≡ length octets = omega (arith, c.0) in
     let right = eqb-true (value_of 256 (drop k octets)) (fcs_of (body octets)) c.1 in
-    let sum : get_or octets k 0 + 256 * get_or octets (k + 1) 0 ≡ 0 = sym (last_two octets c.0) ∙ right ∙ ap fcs_of q ∙ zeros_pass k in
+    let sum : get_or octets k 0 + 256 * get_or octets (k + 1) 0 ≡ 0 = sym (last_two octets two) ∙ right ∙ ap fcs_of q ∙ zeros_pass k in
     let low : get_or octets k 0 ≡ 0 = omega (arith, sum) in
     let high : get_or octets (k + 1) 0 ≡ 0 = omega (arith, sum) in
-    let last : drop k octets ≡ 0 ∷ 0 ∷ [] = last_pair octets c.0 ∙ rw (low, high) in
+    let last : drop k octets ≡ 0 ∷ 0 ∷ [] = last_pair octets two ∙ rw (low, high) in
     not_zeros octets e
     (sym (take-append-drop k octets) ∙ ap (λ (l : List ℕ). l ++ drop k octets) q ∙ zeros_more k (drop k octets) last
     ∙ ap (λ (i : ℕ). replicate i 0) n)

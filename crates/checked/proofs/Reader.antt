@@ -40,7 +40,10 @@ module _ (buffer aside : List ℕ) (r : Reading) (exit : List ℕ) where
   stays (refused x place) p n = ap (λ (o : Outcome Reading). outcome o.answer buffer) p
   stays (done place report count gap polarity) p n = absurd (n (ap (λ (o : Outcome Reading). o.answer.number) p))
 
-  module _ (octets : List ℕ) (o : take r.n octets ≡ take r.n exit) (d : r.number ≡ DONE) (number : ℕ) (k : number ≡ check_of (take r.n octets)) where
+  module _ (octets : List ℕ) (o : take r.n octets ≡ take r.n exit) (d : r.number ≡ DONE) where
+    abbrev number : ℕ
+    number = check_of (take r.n octets)
+
     -- the report that was read
     read_report : (place count gap polarity : ℕ) (report : List ℕ) → outcome r exit ≡ answered (done place report count gap polarity) aside
         → take r.n octets ≡ report
@@ -55,7 +58,7 @@ module _ (buffer aside : List ℕ) (r : Reading) (exit : List ℕ) where
     unfolding told left checked_answer
     refuses (refused x place) f p n t e = absurd (f (sym (ap (λ (o : Outcome Reading). o.answer.number) p) ∙ d))
     refuses (done place report count gap polarity) f p n t e =
-        let c : number ≡ check_of report = k ∙ ap check_of (read_report place count gap polarity report p) in
+        let c : number ≡ check_of report = ap check_of (read_report place count gap polarity report p) in
         let q : r.place ≡ place = ap (λ (o : Outcome Reading). o.answer.place) p in
         rw (ne_eqb (check_of report) DONE (λ z. n (c ∙ z)), e, q, c)
 
@@ -66,7 +69,7 @@ module _ (buffer aside : List ℕ) (r : Reading) (exit : List ℕ) where
     stores (refused x place) f p z l m b = absurd (f (sym (ap (λ (o : Outcome Reading). o.answer.number) p) ∙ d))
     stores (done place report count gap polarity) f p z l m b =
         let rep = read_report place count gap polarity report p in
-        let c : check_of report ≡ DONE = sym (k ∙ ap check_of rep) ∙ z in
+        let c : check_of report ≡ DONE = sym (ap check_of rep) ∙ z in
         let e : r.n ≡ length report = ap (λ (o : Outcome Reading). o.answer.n) p in
         let s = stored_in r.n octets buffer in
         ap (λ (o : Outcome Reading). outcome o.answer s) p
@@ -109,15 +112,18 @@ module _ (mode : ℕ) (chips buffer aside : List ℕ) (whole : 127 ≡ length as
   pub as_plain : (r.number ≡ DONE → ⊥) → outcome r buffer ≡ read_checked_of mode chips buffer
   as_plain = stays buffer (take room aside) r exit a plain
 
-  module _ (d : r.number ≡ DONE) (number : ℕ) (k : number ≡ check_of (take r.n octets)) where
+  module _ (d : r.number ≡ DONE) where
+    abbrev checked : ℕ
+    checked = check_of (take r.n octets)
+
     same_front : take r.n octets ≡ take r.n exit
     same_front = take-append-le r.n exit (drop room aside) (omega (arith, n_room, kept, long))
 
-    pub not_passed : (number ≡ DONE → ⊥) → (t : Reading) → t ≡ told (refused number r.place) → outcome t buffer ≡ read_checked_of mode chips buffer
-    not_passed = refuses buffer (take room aside) r exit octets same_front d number k a (answer_told mode (length buffer) chips) plain
+    pub not_passed : (checked ≡ DONE → ⊥) → (t : Reading) → t ≡ told (refused checked r.place) → outcome t buffer ≡ read_checked_of mode chips buffer
+    not_passed = refuses buffer (take room aside) r exit octets same_front d a (answer_told mode (length buffer) chips) plain
 
-    pub passed : number ≡ DONE → (out : List ℕ) → out ≡ stored_in r.n octets buffer → outcome r out ≡ read_checked_of mode chips buffer
+    pub passed : checked ≡ DONE → (out : List ℕ) → out ≡ stored_in r.n octets buffer → outcome r out ≡ read_checked_of mode chips buffer
     passed z out s =
         ap (outcome r) s
-        ∙ stores buffer (take room aside) r exit octets same_front d number k a (answer_told mode (length buffer) chips) plain z octets_long
+        ∙ stores buffer (take room aside) r exit octets same_front d a (answer_told mode (length buffer) chips) plain z octets_long
         (omega (arith, n_fits, octets_long)) (omega (arith, n_room, least, min-le_left (length buffer) 127))

@@ -1,8 +1,10 @@
--- The promises settle what they speak of: two outcomes that satisfy one are equal. Those of `write`
--- and `read` settle every byte of the lent buffer at exit; each speaks of the function's own
--- contract, as `Settles` does. Assumes nothing.
+-- The promises settle what they speak of: two outcomes that satisfy one are equal. Those of
+-- `try_write`, `write` and `read` settle every byte of the lent buffer at exit; each speaks of the
+-- function's own contract, as `Settles` does. Assumes nothing.
 use Rattle.codes.proofs.Settled.{settled, Settles, SettlesBoth, AsksNothing}
-use Rattle.frame.proofs.Settled.{same_outcome}
+use Rattle.frame.proofs.Settled.{same_outcome, same_answer}
+use Rattle.checked.proofs.try_write.Kinds as try_write_kinds
+use Rattle.checked.proofs.try_write.Reads as try_write_promise
 use Rattle.checked.proofs.write.Kinds as write_kinds
 use Rattle.checked.proofs.write.Reads as write_promise
 use Rattle.checked.proofs.read.Kinds as read_kinds
@@ -11,6 +13,10 @@ use Rattle.checked.proofs.check.Kinds as check_kinds
 use Rattle.checked.proofs.check.Reads as check_promise
 
 -- `s.1.1.0` is the third parameter, the chip buffer, at exit
+pub try_write_settled : SettlesBoth 2 try_write_kinds.ps try_write_kinds.r try_write_promise.Post (λ κs s. s.1.1.0.now)
+try_write_settled κs a p q s t e f = let x = same_outcome _ _ _ _ (settled _ _ e f) in
+    (same_answer p q x.0, x.1)
+
 pub write_settled : SettlesBoth 2 write_kinds.ps write_kinds.r write_promise.Post (λ κs s. s.1.1.0.now)
 write_settled κs a p q s t e f = same_outcome p q _ _ (settled _ _ e f)
 
@@ -20,6 +26,9 @@ read_settled κs a p q s t e f = same_outcome p q _ _ (settled _ _ e f)
 
 pub check_settled : Settles 1 check_kinds.ps check_kinds.r check_promise.Post
 check_settled κs a p q s t = settled p q
+
+pub try_write_asks_nothing : AsksNothing 2 try_write_kinds.ps try_write_promise.Pre
+try_write_asks_nothing κs a = tt
 
 pub write_asks_nothing : AsksNothing 2 write_kinds.ps write_promise.Pre
 write_asks_nothing κs a = tt

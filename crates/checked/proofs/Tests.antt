@@ -1,6 +1,6 @@
 -- The tests of a report, one after the other. Assumes nothing.
-use mathlib.Core.Path.{◌≡◌, refl, sym, ap, ◌∙◌}
-use mathlib.Core.Bool.{Bool, true, false}
+use mathlib.Core.Path.{◌≡◌, refl, ap, ◌∙◌}
+use mathlib.Core.Bool.{true, false}
 use mathlib.Core.List.{List, [], ◌∷◌}
 use Prim.Native.Nat.{ℕ, suc, ◌+◌, ◌*◌, ◌≤◌, ◌<◌, ◌-◌}
 use native.Mathlib.Numerals.{add-one}
@@ -8,33 +8,20 @@ use native.Mathlib.Omega.{arith}
 use lib.Dec.{eqb}
 use lib.ListN.{length, get_or, take, drop, drop_of_length-le}
 use lib.Seq.{drop-cons}
-use borrow.Author.Tests.{lt-ltb, le-ltb, eq-eqb, ne_eqb}
+use borrow.Author.Tests.{lt-ltb, le-ltb}
+use Rattle.std.specs.Int.{w16, from_le_bytes}
+use Rattle.std.specs.List.{list_all}
 use Rattle.codes.specs.Numbers.{DONE, TOOFEW, BADCHECK, ALLZERO}
+use Rattle.codes.proofs.Tests.{by_test}
 use Rattle.order.specs.Received.{value_of}
 use Rattle.fcs.specs.Fcs.{fcs_of}
 use Rattle.checked.specs.Profile.{all_zero, right_fcs, check_of}
 
--- All octets are 0 exactly when those from i on are.
-abbrev pub Zeros : List ℕ → ℕ → Type 0
-Zeros octets i = (i ≤ length octets) × (all_zero octets ≡ all_zero (drop i octets))
-
-pub zeros_begun : (octets : List ℕ) → Zeros octets 0
-zeros_begun octets = (omega arith, refl)
-
--- the next is 0
-pub zeros_next : (octets : List ℕ) (i : ℕ) → Zeros octets i → i < length octets → get_or octets i 0 ≡ 0 → Zeros octets (i + 1)
+-- whether each octet is 0
+pub zeros_each : (octets : List ℕ) → list_all (λ x. eqb x 0) octets ≡ all_zero octets
 unfolding all_zero
-zeros_next octets i z h e = (omega arith, z.1 ∙ ap all_zero (drop-cons octets i 0 h) ∙ rw (eq-eqb (get_or octets i 0) 0 e, add-one i))
-
--- or it isn't
-pub zeros_end : (octets : List ℕ) (i : ℕ) → Zeros octets i → i < length octets → (get_or octets i 0 ≡ 0 → ⊥) → false ≡ all_zero octets
-unfolding all_zero
-zeros_end octets i z h n = sym (z.1 ∙ ap all_zero (drop-cons octets i 0 h) ∙ rw (ne_eqb (get_or octets i 0) 0 n))
-
--- none is left
-pub zeros_all : (octets : List ℕ) (i : ℕ) → Zeros octets i → length octets ≤ i → true ≡ all_zero octets
-unfolding all_zero
-zeros_all octets i z h = sym (z.1 ∙ rw (drop_of_length-le octets h))
+zeros_each [] = refl
+zeros_each (x ∷ xs) = by_test (eqb x 0) (λ t. rw (t, zeros_each xs)) (λ f. rw f)
 
 -- the first test
 pub short_check : (octets : List ℕ) → length octets < 3 → check_of octets ≡ TOOFEW
@@ -55,6 +42,7 @@ module _ (octets : List ℕ) (h : 3 ≤ length octets) where
   unfolding check_of
   right_check r z = rw (le-ltb (length octets) 3 h, r, z)
 
+module _ (octets : List ℕ) (h : 2 ≤ length octets) where
   abbrev k : ℕ
   k = length octets - 2
 
@@ -72,20 +60,9 @@ module _ (octets : List ℕ) (h : 3 ≤ length octets) where
   unfolding value_of
   last_two = ap (value_of 256) last_pair ∙ omega arith
 
-  -- what the code compares, and what it finds of zeros
-  module _ (fcs sent : ℕ) (e : fcs ≡ fcs_of (take k octets)) (s : sent ≡ get_or octets k 0 + 256 * get_or octets (k + 1) 0) where
-    right_is : right_fcs octets ≡ eqb sent fcs
-    right_is = rw (last_two, e, s)
-
-    pub wrong : (fcs ≡ sent → ⊥) → BADCHECK ≡ check_of octets
-    wrong n = sym (wrong_check (right_is ∙ ne_eqb sent fcs (λ q. n (sym q))))
-
-    module _ (q : fcs ≡ sent) (zero : Bool) (z : zero ≡ all_zero octets) where
-      right : right_fcs octets ≡ true
-      right = right_is ∙ eq-eqb sent fcs (sym q)
-
-      pub zeros : zero ≡ true → ALLZERO ≡ check_of octets
-      zeros t = sym (zero_check right (sym z ∙ t))
-
-      pub passes : zero ≡ false → DONE ≡ check_of octets
-      passes t = sym (right_check right (sym z ∙ t))
+  -- what the code compares
+  pub compared : (front last : List ℕ) → front ≡ take k octets → last ≡ drop k octets
+      → (fcs sent : ℕ) → fcs ≡ fcs_of front → sent ≡ from_le_bytes w16 last → eqb sent fcs ≡ right_fcs octets
+  compared front last f l fcs sent e s =
+      let v : from_le_bytes w16 last ≡ value_of 256 (drop k octets) = rw (l, last_two, last_pair) (omega arith) in
+      rw (e, f, s, v)

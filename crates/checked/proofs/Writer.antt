@@ -1,47 +1,35 @@
--- The five ways of the checked writer, over plain values. Assumes nothing.
-use mathlib.Core.Path.{◌≡◌, ap, ◌∙◌}
-use mathlib.Core.Bool.{Bool, true, false}
-use mathlib.Core.List.{List}
-use Prim.Native.Nat.{ℕ, ◌≤◌, ◌<◌}
+-- What the checked writer sends, and how many chips. Assumes nothing.
+use mathlib.Core.Path.{◌≡◌, refl, ap, ◌∙◌}
+use mathlib.Core.List.{List, ◌++◌}
+use Prim.Native.Nat.{ℕ, ◌+◌, ◌-◌, ◌/◌, ◌%◌, ◌≤◌}
 use native.Mathlib.Omega.{arith}
-use lib.ListN.{length}
+use lib.ListN.{length, take, length-append}
+use lib.Seq.{take_at}
 use lib.Dec.{eqb, ltb}
-use borrow.Author.Tests.{lt-ltb, le-ltb, eq-eqb, ne_eqb}
+use borrow.Rule.Slice.PartMut.{put_mid}
+use Rattle.std.specs.Int.{w16, to_le_bytes}
+use Rattle.std.proofs.lemmas.Slice.{take-put_mid}
 use Rattle.codes.specs.Numbers.{BADMODE, TOOLONG, TOOFEW, ALLZERO}
 use Rattle.codes.specs.Radio.{known}
 use Rattle.codes.proofs.Tests.{by_test}
 use Rattle.frame.specs.declared.Written.{Written}
 use Rattle.frame.specs.Outcome.{Outcome, outcome}
-use Rattle.frame.specs.Write.{refused, unwritten, written}
+use Rattle.frame.specs.Write.{unwritten}
 use Rattle.frame.proofs.Writer.{chips_fit}
-use Rattle.fcs.specs.Fcs.{with_fcs}
+use Rattle.fcs.specs.Fcs.{fcs_of, fcs_octets, with_fcs}
+use Rattle.fcs.proofs.Remainder.{fcs_below}
 use Rattle.checked.specs.Profile.{all_zero, written_checked}
 
-module _ (mode : ℕ) (report buffer : List ℕ) where
-  pub no_radio : (w : Written) → w ≡ refused BADMODE → known mode ≡ false → outcome w buffer ≡ written_checked mode report buffer
-  unfolding written_checked
-  no_radio w e k = rw (e, k)
-
-  module _ (m : known mode ≡ true) where
-    pub empty : (w : Written) → w ≡ refused TOOFEW → length report ≡ 0 → outcome w buffer ≡ written_checked mode report buffer
-    unfolding written_checked
-    empty w e h = rw (e, m, eq-eqb (length report) 0 h)
-
-    module _ (s : length report ≡ 0 → ⊥) where
-      pub too_long : (w : Written) → w ≡ refused TOOLONG → 125 < length report → outcome w buffer ≡ written_checked mode report buffer
-      unfolding written_checked
-      too_long w e h = rw (e, m, ne_eqb (length report) 0 s, lt-ltb 125 (length report) h)
-
-      module _ (l : length report ≤ 125) (zero : Bool) (z : zero ≡ all_zero report) where
-        pub all_zero_lem : (w : Written) → w ≡ refused ALLZERO → zero ≡ true → outcome w buffer ≡ written_checked mode report buffer
-        unfolding written_checked
-        all_zero_lem w e t = rw (e, m, ne_eqb (length report) 0 s, le-ltb 125 (length report) l, ← z, t)
-
-        pub sent : zero ≡ false → (octets : List ℕ) → octets ≡ with_fcs report → (w : Written) (b : List ℕ)
-            → outcome w b ≡ written mode octets buffer → outcome w b ≡ written_checked mode report buffer
-        unfolding written_checked
-        sent f octets o w b e =
-            e ∙ ap (λ (xs : List ℕ). written mode xs buffer) o ∙ rw (m, ne_eqb (length report) 0 s, le-ltb 125 (length report) l, ← z, f)
+-- a report at the front of octets aside, and the two of its FCS written after it
+pub appended : (report front rest two : List ℕ) (fcs : ℕ) → front ≡ report → fcs ≡ fcs_of report → two ≡ to_le_bytes w16 fcs
+    → take (length report + 2) (put_mid (length report) (length report + 2 - length report) (front ++ rest) two) ≡ with_fcs report
+appended report front rest two fcs f e t =
+    let high : fcs / 256 % 256 ≡ fcs / 256 = omega (arith, e, fcs_below report) in
+    let last : two ≡ fcs_octets report = t ∙ rw (high, e) in
+    rw (f, last)
+    (take-put_mid (length report) (length report + 2 - length report) (report ++ rest) (fcs_octets report) (length report + 2) refl
+    (omega (arith, length-append report rest))
+    ∙ rw (take_at report rest (length report) refl))
 
 -- the chips that it counts are in the buffer, which keeps its length
 pub checked_chips_fit : (mode : ℕ) (report buffer : List ℕ) (w : Written) (b : List ℕ)

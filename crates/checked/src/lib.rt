@@ -6,30 +6,40 @@
 // (proofs/Room.antt).
 #![tactic(auto)]
 
-ghost use Rattle.std.specs.Prelude.{◌≡◌, ◌+◌, ◌*◌, ◌≤◌, min, length, take};
+ghost use Rattle.std.specs.Prelude.{◌≡◌, ◌+◌, ◌≤◌, ◌↔◌, length, IsOk, IfErr};
+ghost use Rattle.codes.specs.Numbers.{DONE, number_of};
 ghost use Rattle.frame.specs.Outcome.{outcome};
+ghost use Rattle.frame.specs.Write.{answer_of};
 ghost use Rattle.fcs.specs.Fcs.{with_fcs};
-ghost use Rattle.checked.specs.Profile.{all_zero, check_of, read_checked_of, written_checked};
+ghost use Rattle.checked.specs.Profile.{all_zero, right_fcs, check_of, read_checked_of, written_checked};
 
-// Writes the frame of a report with its FCS appended: 1, 14, 2, 16, then the plain writer's 3.
-pub fn write(mode: u32, report: &[u8], chips: &mut [u8]) -> frame::Written
-    ensures { outcome result chips.new ≡ written_checked mode report.now chips.old }
+use codes::{Phy, Refusal};
+use frame::Written;
+
+// Writes the frame of a report with its FCS appended: 1, 14, 2, 16, then the plain writer's 3. The
+// chip count, or why there is none.
+pub fn try_write(mode: u32, report: &[u8], chips: &mut [u8]) -> Result<u32, Refusal>
+    ensures { outcome (answer_of result) chips.new ≡ written_checked mode report.now chips.old }
 {
-    if codes::phy_of(mode).size == 0 {
-        return frame::refusal(codes::BADMODE);
+    Phy::try_from(mode)?;
+    if report.is_empty() {
+        return Err(Refusal::TooFew);
     }
-    let n = report.len();
-    if n == 0 {
-        return frame::refusal(codes::TOOFEW);
-    }
-    if 125 < n {
-        return frame::refusal(codes::TOOLONG);
+    if 125 < report.len() {
+        return Err(Refusal::TooLong);
     }
     if all_zero(report) {
-        return frame::refusal(codes::ALLZERO);
+        return Err(Refusal::AllZero);
     }
-    let octets = with_fcs(report);
-    writer::write(mode, &octets[..n + 2], chips)
+    let mut octets = [0; 127];
+    writer::try_write(mode, with_fcs(report, &mut octets), chips)
+}
+
+// The same, with the answer that C has.
+pub fn write(mode: u32, report: &[u8], chips: &mut [u8]) -> Written
+    ensures { outcome result chips.new ≡ written_checked mode report.now chips.old }
+{
+    Written::from(try_write(mode, report, chips))
 }
 
 // Reads as the plain reader does, into octets aside with the room that the report buffer has, and
@@ -37,91 +47,76 @@ pub fn write(mode: u32, report: &[u8], chips: &mut [u8]) -> frame::Written
 pub fn read(mode: u32, chips: &[u8], report: &mut [u8]) -> reader::Reading
     ensures { outcome result report.new ≡ read_checked_of mode chips.now report.old }
 {
-    let mut octets = aside();
-    let room = room_for(report.len());
+    let mut octets = [0; 127];
+    let room = report.len().min(127);
     let answer = reader::read(mode, chips, &mut octets[..room]);
+    // C's record, with a place beside the number: `reader::read` gives it, and so does this.
     if answer.number != codes::DONE {
         return answer;
     }
+    // Octets and how many of them count: so `reader::store` takes them.
     let n = answer.n as usize;
-    let number = check(&octets[..n]);
-    if number != codes::DONE {
-        return reader::refusal(number, answer.place);
+    if let Err(why) = tested(&octets[..n]) {
+        return reader::refusal(why.into(), answer.place);
     }
     reader::store(octets, n, report);
     answer
 }
 
-// The tests of a report that was read: 14, 15, 16, or 0 where it passes.
+// The tests of a report that was read, as C calls them: 14, 15, 16, or 0 where it passes.
 pub fn check(octets: &[u8]) -> u32
     ensures { result ≡ check_of octets.now }
 {
-    let n = octets.len();
-    if n < 3 {
-        return codes::TOOFEW;
+    match tested(octets) {
+        Ok(()) => codes::DONE,
+        Err(why) => why.into(),
     }
-    let k = n - 2;
-    if fcs::by_table(&octets[..k]) != joined(octets[k], octets[k + 1]) {
-        return codes::BADCHECK;
-    }
-    if all_zero(octets) {
-        return codes::ALLZERO;
-    }
-    codes::DONE
 }
 
-// Two octets as one number, the low one first.
-fn joined(low: u8, high: u8) -> u32
-    ensures { result ≡ low + 256 * high }
+// The same: that it passes, or why not.
+#[tactic(auto, unfolding(crate::specs::Profile::check_of))]
+fn tested(octets: &[u8]) -> Result<(), Refusal>
+    ensures passes { IsOk result ↔ (check_of octets.now ≡ DONE) }
+    ensures refused { IfErr result (λ why. check_of octets.now ≡ number_of why) }
 {
-    low as u32 + 256 * high as u32
+    if octets.len() < 3 {
+        return Err(Refusal::TooFew);
+    }
+    if !right_fcs(octets) {
+        return Err(Refusal::BadCheck);
+    }
+    if all_zero(octets) {
+        return Err(Refusal::AllZero);
+    }
+    Ok(())
+}
+
+// Whether the last two octets are the FCS of those before, the low one first.
+fn right_fcs(octets: &[u8]) -> bool
+    requires { 2 ≤ length octets.now }
+    ensures { result ≡ right_fcs octets.now }
+{
+    let (body, sent) = octets.split_at(octets.len() - 2);
+    u32::from(u16::from_le_bytes([sent[0], sent[1]])) == fcs::by_table(body)
 }
 
 // Whether every octet is 0.
 fn all_zero(octets: &[u8]) -> bool
     ensures { result ≡ all_zero octets.now }
 {
-    let mut i: usize = 0;
-    while i < octets.len() {
-        if octets[i] != 0 {
-            return false;
-        }
-        i += 1;
-    }
-    true
+    octets.iter().all(|&octet| octet == 0)
 }
 
-// The report's octets and the two of its FCS, the low one first. That each of these fits an octet
-// is `fcs_below`: the register stays below 2^16.
+// The report's octets and the two of its FCS, the low one first, over the front of octets aside.
+// That an FCS fits two octets is `fcs_below`: the register stays below 2^16.
 #[tactic(auto, using(fcs::proofs::Remainder::fcs_below))]
-fn with_fcs(report: &[u8]) -> [u8; 127]
+fn with_fcs<'a>(report: &[u8], octets: &'a mut [u8; 127]) -> &'a [u8]
     requires { length report.now ≤ 125 }
-    ensures result_value { take (length report.now + 2) result ≡ with_fcs report.now }
-    ensures result_len { length result ≡ 127 }
+    ensures { result.now ≡ with_fcs report.now }
 {
-    let sequence = fcs::by_table(report);
     let n = report.len();
-    let mut octets = aside();
-    let mut i: usize = 0;
-    while i < n {
-        octets[i] = report[i];
-        i += 1;
-    }
-    octets[n] = (sequence % 256) as u8;
-    octets[n + 1] = (sequence / 256) as u8;
-    octets
-}
-
-// Octets aside, for any report.
-fn aside() -> [u8; 127]
-    ensures { 127 ≡ length result }
-{
-    [0; 127]
-}
-
-// The room that matters: no report is longer than 127.
-fn room_for(room: usize) -> usize
-    ensures { result ≡ min room 127 }
-{
-    if room < 127 { room } else { 127 }
+    let sequence = fcs::by_table(report) as u16;
+    octets[..n].copy_from_slice(report);
+    octets[n..n + 2].copy_from_slice(&sequence.to_le_bytes());
+    &octets[..n + 2]
 }

@@ -2,16 +2,24 @@
 -- chips so far; where one does not, a byte of the symbol is no chip; and after the last one the
 -- symbol of the bits is that of the chips. The reader's loop and matching's stand on it alike.
 -- Over any layout that has a place for each chip. Assumes nothing.
-use Rattle.std.proofs.Common.{◌≡◌, ℕ, zero, suc, ◌+◌, ◌-◌, ◌*◌, ◌/◌, ◌%◌, ◌^◌, ◌<◌, ◌≤◌, Bool, true, false, ltb, leb, ◌⊎◌, List, length, get_or, take, drop, sym, refl, ap, ◌∙◌, inl, inr, mul-le-mul_right, eq-or-lt_of_le, zero-mul, add-one, arith, length-take, ext_get_or, ltb-false, ltb-true, le-ltb, lt-ltb, leb-true}
+use Rattle.std.proofs.Common.{◌≡◌, ℕ, zero, suc, ◌+◌, ◌-◌, ◌*◌, ◌/◌, ◌%◌, ◌^◌, ◌<◌, ◌≤◌, Bool, true, false, ltb, leb, ◌⊎◌, List, length, get_or, take, drop, sym, refl, ap, ◌∙◌, inl, inr, mul-le-mul_right, eq-or-lt_of_le, add-one, arith, length-take, ext_get_or, ltb-false, ltb-true, le-ltb, lt-ltb, leb-true}
+use Rattle.std.specs.Prelude.{Option, None, Some, unwrap_or, option_map}
 use Rattle.codes.specs.Chips.{pick, bad}
 use Rattle.codes.specs.Radio.{known, radio_of, bpsk, oqpsk, lowband}
 use Rattle.codes.specs.Symbol.{symbol_of}
 use Rattle.codes.specs.Packed.{from, packed}
-use Rattle.codes.specs.Gathered.{Layout, layout_of, NOEIGHT, gathered, gathered_at, eight_of, chip_in, listed, symbol_in}
+use Rattle.codes.specs.Gathered.{Layout, layout_of, gathered, gathered_at, eight_of, chip_in, listed, symbol_in}
 use Rattle.codes.proofs.Tests.{by_test, not_both, both_true, upto, every, each}
-use Rattle.codes.proofs.Modes.{each_row, every_row, row_test}
+use Rattle.codes.proofs.Modes.{each_row}
 use Rattle.codes.proofs.Chips.{chip_at_lem, chips_good, window_chip}
 use Rattle.codes.proofs.Packed.{packed_lt, packed_add, packed_digit}
+
+-- what is there is the same, and nothing is not something
+some_is : {x y : ℕ} → Some x ≡ Some y → x ≡ y
+some_is e = ap (λ (o : Option ℕ). unwrap_or o 0) e
+
+some_none : {x : ℕ} → Some x ≡ None → ⊥
+some_none e = let z = ap (λ (o : Option ℕ). unwrap_or (option_map suc o) 0) e in omega arith
 
 pub listed_long : (f : ℕ → ℕ) (n : ℕ) → length (listed f n) ≡ n
 unfolding listed
@@ -34,14 +42,6 @@ module _ (l : Layout) (bits : ℕ) where
   chips_in_lem n =
       chips_good (listed (chip_in l bits) n)
       (λ i h. rw (listed_at (chip_in l bits) n i (omega (arith, listed_long (chip_in l bits) n))) (chip_in_lem i))
-
--- where the eights of a layout begin and how far they are lifted, in numbers that fit
-pub steps_le : (k s : ℕ) → k < 4 → s ≤ 8 → k * s ≤ 24
-steps_le zero s h l = omega (arith, zero-mul s)
-steps_le (suc zero) s h l = omega arith
-steps_le (suc (suc zero)) s h l = omega arith
-steps_le (suc (suc (suc zero))) s h l = omega arith
-steps_le (suc (suc (suc (suc k)))) s h l = absurd (omega arith)
 
 -- byte j of the bits that k eights of a window make
 unfoldable heaped : Layout → (ℕ → ℕ) → ℕ → ℕ → ℕ
@@ -103,17 +103,6 @@ module _ (l : Layout) (size : ℕ) (L : Lays l size) (part : List ℕ) where
   unfolding packed heaped
   gathers_none = record { good = λ e j h. absurd (omega arith); laid = refl }
 
-  -- gathered bits are not all set: no byte is
-  gathers_some : (k bits : ℕ) → k ≤ l.eights → Gathers l part k bits → bits ≡ NOEIGHT → ⊥
-  gathers_some k bits h G e =
-      let small : (j : ℕ) → j < 8 → heaped l (chip_at part) k j ≤ 85 = λ j i. heaped_few l size L (chip_at part) k j h i G.good in
-      omega (
-        arith,
-        small 0 (omega arith),
-        packed_digit (heaped l (chip_at part) k) 8 0 (λ j i. omega (arith, small j i)) (omega arith),
-        sym G.laid ∙ e,
-      )
-
   module _ (long : length part ≡ size) where
     -- where the part's chips are chips, so are each eight's
     part_good : bad part ≡ false → Good l (chip_at part) l.eights
@@ -158,24 +147,25 @@ module _ (l : Layout) (size : ℕ) (L : Lays l size) (part : List ℕ) where
           sum_lt : packed heap 8 < 2 ^ 64
           sum_lt = packed_lt heap 8 (λ j i. omega (arith, heaped_few l size L (chip_at part) (k + 1) j (omega arith) i (more_good b)))
 
-          next_is : gathered l.eights l.step l.lift part k bits ≡ packed heap 8
+          next_is : gathered l.eights l.step l.lift part k bits ≡ Some (packed heap 8)
           unfolding gathered
           next_is =
               rw (lt-ltb k l.eights h, le-ltb (length part) (k * l.step + 8) (omega (arith, L.inside k h)), b)
-              (omega (arith, sum_is, sum_lt))
+              (ap Some (omega (arith, sum_is, sum_lt)))
 
-        module _ (next : ℕ) (e : next ≡ gathered l.eights l.step l.lift part k bits) where
-          gathers_more : (next ≡ NOEIGHT → ⊥) → Gathers l part (k + 1) next
-          unfolding gathered
-          gathers_more n =
-              by_test (bad eight)
-              (λ b. absurd (n (e ∙ rw (lt-ltb k l.eights h, le-ltb (length part) (k * l.step + 8) (omega (arith, L.inside k h)), b))))
-              (λ b. record { good = more_good b; laid = e ∙ next_is b })
+        -- one with a byte that is none adds nothing
+        none_is : bad eight ≡ true → gathered l.eights l.step l.lift part k bits ≡ None
+        unfolding gathered
+        none_is b = rw (lt-ltb k l.eights h, le-ltb (length part) (k * l.step + 8) (omega (arith, L.inside k h)), b)
 
-          gathers_bad : next ≡ NOEIGHT → bad part ≡ true
-          gathers_bad n =
-              by_test (bad eight) eight_part
-              (λ b. absurd (gathers_some (k + 1) next (omega arith) (record { good = more_good b; laid = e ∙ next_is b }) n))
+        gathers_more : (next : ℕ) → Some next ≡ gathered l.eights l.step l.lift part k bits → Gathers l part (k + 1) next
+        gathers_more next e =
+            by_test (bad eight)
+            (λ b. absurd (some_none (e ∙ none_is b)))
+            (λ b. record { good = more_good b; laid = some_is (e ∙ next_is b) })
+
+        gathers_bad : None ≡ gathered l.eights l.step l.lift part k bits → bad part ≡ true
+        gathers_bad e = by_test (bad eight) eight_part (λ b. absurd (some_none (sym (e ∙ next_is b))))
 
     -- after the last eight the bits hold the part's chips
     gathers_all : (bits : ℕ) → Gathers l part l.eights bits → listed (chip_in l bits) size ≡ part
@@ -256,13 +246,6 @@ lays =
     (lays_by (layout_of oqpsk) 32 refl (λ j. omega arith) (told_four 8))
     (lays_by (layout_of lowband) 16 refl (λ j. omega arith) (told_two 8))
 
--- and its numbers are small
-pub layout_few : (mode : ℕ) → ((layout_of (radio_of mode)).eights ≤ 4) × ((layout_of (radio_of mode)).step ≤ 8) × ((layout_of (radio_of mode)).lift ≤ 8)
-layout_few mode = (few (λ l. l.eights) 4 refl, few (λ l. l.step) 8 refl, few (λ l. l.lift) 8 refl)
-  where
-    few : (f : Layout → ℕ) (n : ℕ) → every_row (λ r. leb (f (layout_of r)) n) ≡ true → f (layout_of (radio_of mode)) ≤ n
-    few f n t = leb-true _ _ (row_test (λ r. leb (f (layout_of r)) n) t mode)
-
 -- At a mode that has a radio, for the loops, which run over all eights that a symbol can have:
 -- after k turns the bits are those of k eights, or of all.
 pub record Loop (mode : ℕ) (part : List ℕ) (k bits : ℕ) : Type 0 where
@@ -288,50 +271,49 @@ module _ (mode : ℕ) (m : known mode ≡ true) (part : List ℕ) where
       record { few = omega arith; gathers = rw (within 0 (omega arith)) (gathers_none laying (radio_of mode).size (lays mode) part) }
 
   module _ (long : length part ≡ (radio_of mode).size) where
-    module _ (k : ℕ) (h : k < 4) (bits : ℕ) (G : Loop mode part k bits) (next : ℕ) (e : next ≡ gathered_at mode part k bits) where
-      next_is_gathered : next ≡ gathered laying.eights laying.step laying.lift part k bits
+    module _ (k : ℕ) (h : k < 4) (bits : ℕ) (G : Loop mode part k bits) where
+      here : gathered_at mode part k bits ≡ gathered laying.eights laying.step laying.lift part k bits
       unfolding gathered_at
-      next_is_gathered = e ∙ rw m
+      here = rw m
 
       -- a symbol's eight
       module _ (i : k < laying.eights) where
         so_far : Gathers laying part k bits
         so_far = rw (within k (omega arith)) at G.gathers
 
-        inside_on : (next ≡ NOEIGHT → ⊥) → Loop mode part (k + 1) next
-        inside_on n =
+        inside_on : (next : ℕ) → Some next ≡ gathered_at mode part k bits → Loop mode part (k + 1) next
+        inside_on next e =
             record {
               few = omega arith;
               gathers =
                   rw (within (k + 1) (omega arith))
-                  (gathers_more laying (radio_of mode).size (lays mode) part long k i bits so_far next next_is_gathered n);
+                  (gathers_more laying (radio_of mode).size (lays mode) part long k i bits so_far next (e ∙ here));
             }
 
-        inside_stop : next ≡ NOEIGHT → bad part ≡ true
-        inside_stop = gathers_bad laying (radio_of mode).size (lays mode) part long k i bits so_far next next_is_gathered
+        inside_stop : None ≡ gathered_at mode part k bits → bad part ≡ true
+        inside_stop e = gathers_bad laying (radio_of mode).size (lays mode) part long k i bits so_far (e ∙ here)
 
       -- one that it doesn't have
       module _ (i : laying.eights ≤ k) where
-        same : next ≡ bits
+        same : gathered_at mode part k bits ≡ Some bits
         unfolding gathered
-        same = next_is_gathered ∙ rw (le-ltb k laying.eights i)
+        same = here ∙ rw (le-ltb k laying.eights i)
 
         all_so_far : Gathers laying part laying.eights bits
         all_so_far = rw (beyond k i) at G.gathers
 
-      pub loop_goes_on : (next ≡ NOEIGHT → ⊥) → Loop mode part (k + 1) next
-      loop_goes_on n =
+      pub loop_goes_on : (next : ℕ) → Some next ≡ gathered_at mode part k bits → Loop mode part (k + 1) next
+      loop_goes_on next e =
           by_test (ltb k laying.eights)
-          (λ t. inside_on (ltb-true k laying.eights t) n)
+          (λ t. inside_on (ltb-true k laying.eights t) next e)
           (λ t. let i = ltb-false k laying.eights t in
-          record { few = omega arith; gathers = rw (beyond (k + 1) (omega arith), same i) (all_so_far i) })
+          record { few = omega arith; gathers = rw (beyond (k + 1) (omega arith), some_is (e ∙ same i)) (all_so_far i) })
 
-      pub loop_stops : next ≡ NOEIGHT → bad part ≡ true
-      loop_stops n =
+      pub loop_stops : None ≡ gathered_at mode part k bits → bad part ≡ true
+      loop_stops e =
           by_test (ltb k laying.eights)
-          (λ t. inside_stop (ltb-true k laying.eights t) n)
-          (λ t. let i = ltb-false k laying.eights t in
-          absurd (gathers_some laying (radio_of mode).size (lays mode) part laying.eights bits (omega arith) (all_so_far i) (sym (same i) ∙ n)))
+          (λ t. inside_stop (ltb-true k laying.eights t) e)
+          (λ t. absurd (some_none (sym (e ∙ same (ltb-false k laying.eights t)))))
 
     pub loop_ends : (k bits : ℕ) → 4 ≤ k → Loop mode part k bits → symbol_in mode bits ≡ symbol_of (radio_of mode) part
     unfolding symbol_in

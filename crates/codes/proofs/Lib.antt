@@ -1,7 +1,6 @@
 -- Laws that serve several functions or crates, leaves first.
 pub mod Tests
 pub mod Modes
-pub mod Copy
 pub mod Rows
 pub mod Chips
 pub mod Packed

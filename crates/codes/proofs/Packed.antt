@@ -1,10 +1,10 @@
 -- Laws of bytes taken as the digits of one number: how eight are packed and had again, the test of
 -- eight at once for one that is no chip, sums and masks of each digit apart, and the sum of eight
 -- digits. Assumes nothing.
-use Rattle.std.proofs.Common.{◌≡◌, ℕ, zero, suc, ◌+◌, ◌-◌, ◌*◌, ◌/◌, ◌%◌, ◌^◌, ◌<◌, ◌≤◌, true, false, ltb, ◌⊎◌, List, length, get_or, take, drop, sym, refl, ap, ◌∙◌, inl, inr, mul_assoc, suc-mul, mul_comm, add-mul, eq-or-lt_of_le, add-one, arith, length-drop, get_or-drop, pow_pos, pow-add, shl_exact, ltb-false, ltb-true, le-ltb, lt-ltb}
+use Rattle.std.proofs.Common.{◌≡◌, ℕ, zero, suc, ◌+◌, ◌-◌, ◌*◌, ◌/◌, ◌%◌, ◌^◌, ◌<◌, ◌≤◌, true, false, ltb, ◌⊎◌, List, length, get_or, take, drop, sym, refl, ap, ◌∙◌, inl, inr, mul_assoc, suc-mul, mul_comm, add-mul, eq-or-lt_of_le, arith, length-drop, get_or-drop, pow_pos, pow-add, ltb-false, ltb-true, le-ltb, lt-ltb}
 use lib.Arith.{digits_lt}
 use lib.Pow.{high, low, field, mod-pow-add, mod-mod-pow}
-use lib.Bits.{bit_and, bit_or, or_shifted_r, and_block, and_high}
+use lib.Bits.{bit_and, and_block, and_high}
 use Rattle.codes.specs.Chips.{pick, bad}
 use Rattle.codes.specs.Packed.{from, packed, byte_of, digit_sum}
 use Rattle.codes.proofs.Tests.{by_test, upto}
@@ -23,13 +23,6 @@ pub packed_lt : (f : ℕ → ℕ) (k : ℕ) → Bytes f k → packed f k < 2 ^ (
 unfolding packed
 packed_lt f zero b = omega arith
 packed_lt f (suc k) b = rw (bits_more k) (digits_lt (b k (omega arith)) (packed_lt f k (λ i l. b i (omega arith))))
-
--- a turn of the loop that packs puts the next digit above the others
-pub digit_more : (f : ℕ → ℕ) → ((i : ℕ) → f i < 256) → (k x v : ℕ) → k < 8 → x ≡ packed f k → v ≡ f k → bit_or x (v * 2 ^ (k * 8) % 2 ^ 64) ≡ packed f (k + 1)
-unfolding packed
-digit_more f b k x v h e d =
-    rw (e, d, add-one, shl_exact 8 (k * 8) 64 (b k) (omega arith))
-    (or_shifted_r (f k) (k * 8) (packed f k) (packed_lt f k (λ i l. b i)))
 
 -- digits that agree make the same number
 pub packed_cong : (f g : ℕ → ℕ) (k : ℕ) → ((i : ℕ) → i < k → f i ≡ g i) → packed f k ≡ packed g k

@@ -1,6 +1,6 @@
 -- Not to be believed: a symbol's chips gathered as the bits of one number, eight at a time, and its
 -- symbol read there, shown to be that of the chips in proofs/Gathering.antt.
-use Rattle.std.specs.Prelude.{ℕ, zero, suc, ◌+◌, ◌-◌, ◌*◌, ◌/◌, ◌%◌, ◌^◌, List, [], ◌∷◌, length, take, drop, nat_lt}
+use Rattle.std.specs.Prelude.{ℕ, zero, suc, ◌+◌, ◌-◌, ◌*◌, ◌/◌, ◌%◌, ◌^◌, List, [], ◌∷◌, length, take, drop, nat_lt, Option, None, Some, unwrap_or, option_and_then}
 use Rattle.codes.specs.declared.Symbol.{Symbol}
 use Rattle.codes.specs.Numbers.{BADMODE}
 use Rattle.codes.specs.Chips.{pick, bad}
@@ -20,28 +20,24 @@ pub record Layout : Type 0 where
 abbrev pub layout_of : Radio → Layout
 layout_of r = record { eights = (r.size + 1) / 8; step = r.size / ((r.size + 1) / 8); lift = 8 / ((r.size + 1) / 8) }
 
--- all bits set, which no gathered chips have
-abbrev pub NOEIGHT : ℕ
-NOEIGHT = 0xFFFFFFFFFFFFFFFF
-
--- Eight k of a symbol's chips, added to the bits gathered before it; `NOEIGHT` where they are
--- fewer, or one of its bytes is no chip. A symbol that has no eight k leaves the bits as they are.
-unfoldable pub gathered : ℕ → ℕ → ℕ → List ℕ → ℕ → ℕ → ℕ
+-- Eight k of a symbol's chips, added to the bits gathered before it; none where they are fewer, or
+-- one of its bytes is no chip. A symbol that has no eight k leaves the bits as they are.
+unfoldable pub gathered : ℕ → ℕ → ℕ → List ℕ → ℕ → ℕ → Option ℕ
 gathered eights step lift part k bits =
     pick (nat_lt k eights)
-    (pick (nat_lt (length part) (k * step + 8)) NOEIGHT
-    (pick (bad (take 8 (drop (k * step) part))) NOEIGHT
-    ((bits + packed (from part (k * step)) 8 * 2 ^ (k * lift) % 2 ^ 64) % 2 ^ 64)))
-    bits
+    (pick (nat_lt (length part) (k * step + 8)) None
+    (pick (bad (take 8 (drop (k * step) part))) None
+    (Some ((bits + packed (from part (k * step)) 8 * 2 ^ (k * lift) % 2 ^ 64) % 2 ^ 64))))
+    (Some bits)
 
 -- by a layout
-abbrev pub gathered_by : Layout → List ℕ → ℕ → ℕ → ℕ
+abbrev pub gathered_by : Layout → List ℕ → ℕ → ℕ → Option ℕ
 gathered_by l = gathered l.eights l.step l.lift
 
--- at a mode; `NOEIGHT` where it has no radio
-unfoldable pub gathered_at : ℕ → List ℕ → ℕ → ℕ → ℕ
+-- at a mode; none where it has no radio
+unfoldable pub gathered_at : ℕ → List ℕ → ℕ → ℕ → Option ℕ
 gathered_at mode part k bits =
-    pick (known mode) (gathered_by (layout_of (radio_of mode)) part k bits) NOEIGHT
+    pick (known mode) (gathered_by (layout_of (radio_of mode)) part k bits) None
 
 -- the eight that chip i is read from, the first that has it
 abbrev pub eight_of : Layout → ℕ → ℕ
@@ -60,10 +56,11 @@ listed f (suc n) = f 0 ∷ listed (λ i. f (suc i)) n
 abbrev pub chips_in : Radio → ℕ → List ℕ
 chips_in r bits = listed (chip_in (layout_of r) bits) r.size
 
--- a symbol's chips all gathered, as the loops do it
+-- a symbol's chips all gathered, as the loops do it; 0 where one is no chip
 unfoldable pub gathered_all : Radio → List ℕ → ℕ
 gathered_all r part =
-    gathered_by (layout_of r) part 3 (gathered_by (layout_of r) part 2 (gathered_by (layout_of r) part 1 (gathered_by (layout_of r) part 0 0)))
+    let more : ℕ → Option ℕ → Option ℕ = λ k. option_and_then (gathered_by (layout_of r) part k) in
+    unwrap_or (more 3 (more 2 (more 1 (more 0 (Some 0))))) 0
 
 -- the symbol of the chips that the bits hold
 unfoldable pub symbol_in : ℕ → ℕ → Symbol

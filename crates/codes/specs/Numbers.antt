@@ -1,6 +1,7 @@
--- The numbers given back, in the order of the scope's table. `src/lib.rt` has constants of the same
--- names.
+-- The numbers given back, in the order of the scope's table.
 use Rattle.std.specs.Prelude.{ℕ}
+use Rattle.codes.specs.declared.Refusal.{Refusal}
+use Rattle.codes.specs.declared.Refusal.TheVariants.{BadMode, TooLong, NoRoom, RunOut, NoChip, Lost, Preamble, BadStart, Ended, BadPart, NotEnded, TooFew, BadCheck, AllZero, Forged}
 
 -- done
 abbrev pub DONE : ℕ
@@ -71,3 +72,21 @@ ALLZERO = 16
 -- record that these calls don't make
 abbrev pub FORGED : ℕ
 FORGED = 34
+
+-- the number of a refusal
+abbrev pub number_of : Refusal → ℕ
+number_of BadMode = BADMODE
+number_of TooLong = TOOLONG
+number_of NoRoom = NOROOM
+number_of RunOut = RUNOUT
+number_of NoChip = NOCHIP
+number_of Lost = LOST
+number_of Preamble = PREAMBLE
+number_of BadStart = BADSTART
+number_of Ended = ENDED
+number_of BadPart = BADPART
+number_of NotEnded = NOTENDED
+number_of TooFew = TOOFEW
+number_of BadCheck = BADCHECK
+number_of AllZero = ALLZERO
+number_of Forged = FORGED

@@ -7,7 +7,7 @@ use Rattle.codes.specs.Chips.{distance}
 use Rattle.codes.specs.Radio.{Radio, Sound, word, oqpsk, lowband}
 use Rattle.codes.specs.Packed.{packed, byte_of}
 use Rattle.codes.specs.Gathered.{layout_of, chip_in, chips_in}
-use Rattle.columns.specs.Columns.{first_third, folded, four_columns, two_columns, turned_bits, turned_pair, parted, even_parted, odd_parted, apart_at, Half, Keyed, near_in}
+use Rattle.columns.specs.Columns.{first_third, folded, four_columns, two_columns, turned_pair, parted, even_parted, odd_parted, apart_at, Half, Keyed, near_in}
 use Rattle.codes.specs.Near.{nearest_of, nearest_in}
 use Rattle.codes.proofs.Tests.{every, each}
 use Rattle.codes.proofs.Packed.{packed_cong, mask_digits, digit_lt}
@@ -16,7 +16,7 @@ use Rattle.columns.proofs.Laid.{laid, laid_lt, laid_cong, Chips}
 use Rattle.codes.proofs.Gathering.{chip_in_lem, chips_in_lem}
 use Rattle.columns.proofs.Leasts.{keys_near}
 use Rattle.columns.proofs.Words.{Columned, part, even_at, odd_at, oqpsk_even, oqpsk_odd, lowband_even, lowband_odd}
-use Rattle.columns.proofs.Words.{columned_oqpsk, columned_lowband, apart_is, apart_le, parted_few}
+use Rattle.columns.proofs.Words.{columned_oqpsk, columned_lowband, apart_is, apart_le, parted_few, parted_le}
 use Rattle.codes.proofs.Facts.{sound_oqpsk, sound_lowband}
 
 -- the keys of a radio whose words have columns tell the nearest word and the next, where the
@@ -88,7 +88,6 @@ fourth_bits = mask_by 0x11 fourths refl
 
 -- mode 1: the columns of word 0, and of a symbol
 four_word : (w : ℕ) → w ≡ four_columns 0x0554404111401505 → (first_third w ≡ oqpsk_even) × (first_third (w / 256) ≡ oqpsk_odd)
-unfolding four_columns
 four_word w e = (ap (λ (w : ℕ). first_third w) e, ap (λ (w : ℕ). first_third (w / 256)) e)
 
 module _ (bits : ℕ) (fits : bits < 2 ^ 64) where
@@ -139,7 +138,6 @@ module _ (bits : ℕ) (fits : bits < 2 ^ 64) where
 
   module _ (t : ℕ) (et : t ≡ four_columns bits) where
     four : t ≡ column 3 * 2 ^ 24 + column 2 * 2 ^ 16 + column 1 * 2 ^ 8 + column 0
-    unfolding four_columns
     four = et ∙ ap (λ (z : ℕ). folded 32 2 z) masked ∙ columns
 
     evens_laid : first_third t ≡ laid (λ m. chip (even_at 4 m)) 16
@@ -158,21 +156,24 @@ module _ (bits : ℕ) (fits : bits < 2 ^ 64) where
         together : column 3 * 256 + column 1 ≡ laid (λ m. chip (odd_at 4 m)) 16
         together = omega arith
 
-    -- the nearest word, by the columns of word 0
-    pub four_nearest : (w : ℕ) → w ≡ four_columns 0x0554404111401505 → (keys : List ℕ)
-        → Keyed (apart_at 16 (even_parted t w) (odd_parted t w)) keys → near_in keys ≡ nearest_in 1 bits
-    unfolding nearest_in
-    four_nearest w e =
-        columns_nearest oqpsk sound_oqpsk 16 (omega arith) (even_at 4) (odd_at 4) oqpsk_even oqpsk_odd columned_oqpsk bits t evens_laid odds_laid
-        (λ m l. omega arith) (λ m l. omega arith) w (four_word w e)
+    module _ (w : ℕ) (e : w ≡ four_columns 0x0554404111401505) where
+      -- two columns have sixteen chips
+      pub four_half : Half 16 (odd_parted t w)
+      four_half v h = parted_le (first_third (t / 256)) (first_third (w / 256)) v (omega arith)
+
+      -- the nearest word, by the columns of word 0
+      pub four_nearest : (keys : List ℕ) → Keyed (apart_at 16 (even_parted t w) (odd_parted t w)) keys → near_in keys ≡ nearest_in 1 bits
+      unfolding nearest_in
+      four_nearest =
+          columns_nearest oqpsk sound_oqpsk 16 (omega arith) (even_at 4) (odd_at 4) oqpsk_even oqpsk_odd columned_oqpsk bits t evens_laid odds_laid
+          (λ m l. omega arith) (λ m l. omega arith) w (four_word w e)
 
 -- mode 2
 two_word : (w : ℕ) → w ≡ two_columns 0x1001110101110000 → (first_third w ≡ lowband_even) × (first_third (w / 256) ≡ lowband_odd)
-unfolding two_columns
 two_word w e = (ap (λ (w : ℕ). first_third w) e, ap (λ (w : ℕ). first_third (w / 256)) e)
 
 one_column : every (λ v. ltb (turned_pair lowband_odd v) 256) 8 ≡ true
-unfolding every turned_pair turned_bits
+unfolding every
 one_column = refl
 
 module _ (bits : ℕ) (fits : bits < 2 ^ 64) where
@@ -221,7 +222,6 @@ module _ (bits : ℕ) (fits : bits < 2 ^ 64) where
 
   module _ (t : ℕ) (et : t ≡ two_columns bits) where
     two : t ≡ 0 * 2 ^ 24 + 0 * 2 ^ 16 + column₂ 1 * 2 ^ 8 + column₂ 0
-    unfolding two_columns
     two = et ∙ ap (λ (z : ℕ). folded 16 2 (folded 32 4 z)) masked₂ ∙ columns₂ ∙ omega arith
 
     evens₂_laid : first_third t ≡ laid (λ m. chip₂ (even_at 2 m)) 8

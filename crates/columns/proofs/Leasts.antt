@@ -1,57 +1,55 @@
 -- The least of some values, and of keys of distance and number: the least key tells the nearest
 -- word, the least key above it the next-nearest. Assumes nothing.
-use Rattle.std.proofs.Common.{◌≡◌, ℕ, zero, suc, ◌+◌, ◌/◌, ◌%◌, ◌^◌, ◌<◌, ◌≤◌, Bool, true, false, eqb, ltb, ◌⊎◌, List, length, get_or, set, sym, refl, ap, ◌∙◌, inl, inr, eq-or-lt_of_le, add-one, arith, length-set, get_or-set_other, get_or-set_same, ltb-false, ltb-true, le-ltb, lt-ltb, eqb-true}
+use Rattle.std.proofs.Common.{◌≡◌, ℕ, zero, suc, ◌+◌, ◌/◌, ◌%◌, ◌^◌, ◌<◌, ◌≤◌, eqb, ltb, min, List, [], ◌∷◌, length, get_or, set, take, map, fold, sym, ap, ◌∙◌, arith, length-take-le, ltb-false, ltb-true, eqb-true}
+use Rattle.std.proofs.lemmas.Grind.{common_steps}
+use Rattle.std.proofs.lemmas.List.{length-map, get_or-map, get_or-take, get_or_past}
 use borrow.Author.Tests.{eqb-false}
-use Rattle.codes.specs.Chips.{pick, distance}
+use Rattle.codes.specs.Chips.{distance}
 use Rattle.codes.specs.Radio.{Radio, word}
 use Rattle.codes.specs.Symbol.{nearest, nearest_word, nearest_but, next_nearest}
-use Rattle.columns.specs.Columns.{Keyed, least_from, past, least_past, near_of, near_in}
+use Rattle.columns.specs.Columns.{Keyed, past, least_past, near_of, near_in}
 use Rattle.codes.specs.Near.{nearest_of}
-use Rattle.codes.proofs.Tests.{by_test, upto}
+use Rattle.codes.proofs.Tests.{by_test}
 use Rattle.codes.proofs.Leasts.{nearest_is, word_is, but_is}
 
-module _ (s : ℕ) (f : ℕ → ℕ) where
-  -- a turn of a loop that keeps the least so far
-  pub less : (k x m : ℕ) → m ≡ least_from s f k → x ≡ f k → x < m → x ≡ least_from s f (k + 1)
-  unfolding least_from
-  less k x m p q h = rw (add-one, ← p, ← q, lt-ltb x m h)
+-- the least of a list and of a number to start from is none but one of them
+fold_le_start : (s : ℕ) (xs : List ℕ) → fold min s xs ≤ s
+fold_le_start s [] = omega arith
+fold_le_start s (x ∷ xs) = omega (arith, fold_le_start (min s x) xs)
 
-  pub no_less : (k x m : ℕ) → m ≡ least_from s f k → x ≡ f k → m ≤ x → m ≡ least_from s f (k + 1)
-  unfolding least_from
-  no_less k x m p q h = rw (add-one, ← p, ← q, le-ltb x m h)
+pub fold_le : (s : ℕ) (xs : List ℕ) (u : ℕ) → u < length xs → fold min s xs ≤ get_or xs u 0
+fold_le s [] u h = absurd (omega arith)
+fold_le s (x ∷ xs) zero h = omega (arith, fold_le_start (min s x) xs)
+fold_le s (x ∷ xs) (suc u) h = fold_le (min s x) xs u (omega (arith, h))
 
-  -- none is less
-  pub from_le : (k u : ℕ) → u < k → least_from s f k ≤ f u
-  unfolding least_from
-  from_le zero u h = absurd (omega arith)
-  from_le (suc k) u h = go (ltb (f k) (least_from s f k)) refl (eq-or-lt_of_le (upto u k h)) (from_le k u)
-    where
-      go : (b : Bool) → ltb (f k) (least_from s f k) ≡ b → (u ≡ k) ⊎ (u < k) → (u < k → least_from s f k ≤ f u) → pick b (f k) (least_from s f k) ≤ f u
-      go true e (inl q) r = rw q (omega arith)
-      go true e (inr l) r = omega (arith, ltb-true (f k) (least_from s f k) e, r l)
-      go false e (inl q) r = rw q (ltb-false (f k) (least_from s f k) e)
-      go false e (inr l) r = r l
+-- where it is below the start
+pub fold_at : (s : ℕ) (xs : List ℕ) → fold min s xs < s → (u : ℕ) × (u < length xs) × (get_or xs u 0 ≡ fold min s xs)
+fold_at s [] h = absurd (omega arith)
+fold_at s (x ∷ xs) h =
+    by_test (ltb (fold min (min s x) xs) (min s x))
+    (λ t. let r = fold_at (min s x) xs (ltb-true _ _ t) in (suc r.0, omega (arith, r.1), r.2))
+    (λ t. (0, omega arith, omega (arith, fold_le_start (min s x) xs, ltb-false _ _ t)))
 
-  -- and where it is below s it is one of them
-  pub from_at : (k : ℕ) → least_from s f k < s → (u : ℕ) × (u < k) × (f u ≡ least_from s f k)
-  unfolding least_from
-  from_at zero h = absurd (omega arith)
-  from_at (suc k) h = go (ltb (f k) (least_from s f k)) (from_at k) h
-    where
-      go : (b : Bool) → (least_from s f k < s → (u : ℕ) × (u < k) × (f u ≡ least_from s f k))
-          → pick b (f k) (least_from s f k) < s → (u : ℕ) × (u < suc k) × (f u ≡ pick b (f k) (least_from s f k))
-      go true r h = (k, omega arith, refl)
-      go false r h = let t = r h in (t.0, omega (arith, t.1), t.2)
+-- of sixteen keys, each less a number
+module _ (b : ℕ) (keys : List ℕ) (enough : 16 ≤ length keys) where
+  abbrev firsts : List ℕ
+  firsts = take 16 keys
 
--- values that agree
-pub from_cong : (s : ℕ) (f g : ℕ → ℕ) (k : ℕ) → ((u : ℕ) → u < k → f u ≡ g u) → least_from s f k ≡ least_from s g k
-unfolding least_from
-from_cong s f g zero e = refl
-from_cong s f g (suc k) e = rw (e k (omega arith), from_cong s f g k (λ u l. e u (omega arith)))
+  length-firsts : length firsts ≡ 16
+  length-firsts = length-take-le 16 keys enough
 
--- what a wrapping difference says of itself
-pub sub_past : (r a b : ℕ) → r < 2 ^ 16 → b < 2 ^ 16 → (r + b) % 2 ^ 16 ≡ a → r ≡ past b a
-sub_past r a b h j e = omega (arith, e)
+  past_at : (v : ℕ) → v < 16 → get_or (map (past b) firsts) v 0 ≡ past b (get_or keys v 0)
+  past_at v h = get_or-map (past b) firsts v 0 0 (omega (arith, length-firsts)) ∙ ap (past b) (get_or-take 16 keys v 0 h)
+
+  pub least_le : (v : ℕ) → v < 16 → fold min 0xFFFF (map (past b) firsts) ≤ past b (get_or keys v 0)
+  least_le v h = rw (past_at v h) at (fold_le 0xFFFF (map (past b) firsts) v (rw (length-map firsts (past b), length-firsts) h))
+
+  pub least_at : fold min 0xFFFF (map (past b) firsts) < 0xFFFF
+      → (u : ℕ) × (u < 16) × (past b (get_or keys u 0) ≡ fold min 0xFFFF (map (past b) firsts))
+  least_at h =
+      let t = fold_at 0xFFFF (map (past b) firsts) h in
+      let l = rw (length-map firsts (past b), length-firsts) at t.1 in
+      (t.0, l, sym (past_at t.0 l) ∙ t.2)
 
 -- sixteen keys of a radio's words
 module _ (r : Radio) (many : length r.words ≡ 16) (xs : List ℕ) (small : (v : ℕ) → v < 16 → distance xs (word r v) ≤ 32)
@@ -72,31 +70,32 @@ module _ (r : Radio) (many : length r.words ≡ 16) (xs : List ℕ) (small : (v 
   key_few : (v : ℕ) → v < 16 → (1 ≤ key v) × (key v < 2000)
   key_few v h = (omega (arith, K v h), omega (arith, K v h, small v h))
 
+  -- there are as many
+  enough : 16 ≤ length keys
+  enough = grind (arith, K 15 (omega arith), get_or_past keys 15 0)
+
   -- the least of them is a word's
   abbrev m : ℕ
   m = least_past 0 keys
 
-  all : ℕ
-  all = least_from 0xFFFF (λ v. past 0 (key v)) 16
+  abbrev all : ℕ
+  all = fold min 0xFFFF (map (past 0) (take 16 keys))
 
   past_none : (v : ℕ) → v < 16 → past 0 (key v) ≡ key v
   past_none v h = omega (arith, (key_few v h).1)
 
   all_le : (v : ℕ) → v < 16 → all ≤ key v
-  unfolding all
-  all_le v h = omega (arith, past_none v h, from_le 0xFFFF (λ v. past 0 (key v)) 16 v h)
+  all_le v h = omega (arith, past_none v h, least_le 0 keys enough v h)
 
   m_is : m ≡ all
-  unfolding least_past all
   m_is = omega (arith, all_le 0 (omega arith), (key_few 0 (omega arith)).1)
 
   m_le : (v : ℕ) → v < 16 → m ≤ key v
   m_le v h = omega (arith, m_is, all_le v h)
 
   lowest : (v : ℕ) × (v < 16) × (key v ≡ m)
-  unfolding all
   lowest =
-      let t = from_at 0xFFFF (λ v. past 0 (key v)) 16 (omega (arith, all_le 0 (omega arith), (key_few 0 (omega arith)).1)) in
+      let t = least_at 0 keys enough (omega (arith, all_le 0 (omega arith), (key_few 0 (omega arith)).1)) in
       (t.0, t.1, omega (arith, past_none t.0 t.1, t.2, m_is))
 
   module _ (v : ℕ) (h : v < 16) (e : key v ≡ m) where
@@ -121,10 +120,10 @@ module _ (r : Radio) (many : length r.words ≡ 16) (xs : List ℕ) (small : (v 
     own_key = omega (arith, e, (key_few v h).1)
 
     abbrev rest : ℕ
-    rest = least_from 0xFFFF (λ u. past (m + 1) (key u)) 16
+    rest = fold min 0xFFFF (map (past (m + 1)) (take 16 keys))
 
     rest_le : (u : ℕ) → u < 16 → (u ≡ v → ⊥) → rest + (m + 1) ≤ key u
-    rest_le u l n = omega (arith, other_key u l n, from_le 0xFFFF (λ u. past (m + 1) (key u)) 16 u l)
+    rest_le u l n = omega (arith, other_key u l n, least_le (m + 1) keys enough u l)
 
     -- there is another word
     another : (u : ℕ) × (u < 16) × (u ≡ v → ⊥)
@@ -135,12 +134,11 @@ module _ (r : Radio) (many : length r.words ≡ 16) (xs : List ℕ) (small : (v 
 
     rest_at : (u : ℕ) × (u < 16) × (u ≡ v → ⊥) × (key u ≡ rest + (m + 1))
     rest_at =
-        let t = from_at 0xFFFF (λ u. past (m + 1) (key u)) 16 rest_lt in
+        let t = least_at (m + 1) keys enough rest_lt in
         let n : t.0 ≡ v → ⊥ = λ q. omega (arith, rest_lt, t.2, own_key, ap (λ (u : ℕ). past (m + 1) (key u)) q) in
         (t.0, t.1, n, omega (arith, t.2, other_key t.0 t.1 n))
 
     next_is : (least_past ((m + 1) % 2 ^ 16) keys) / 32 ≡ next_nearest r xs
-    unfolding least_past
     next_is =
         let t = rest_at in
         let w : (m + 1) % 2 ^ 16 ≡ m + 1 = omega (arith, e, (key_few v h).1) in
@@ -159,24 +157,12 @@ module _ (r : Radio) (many : length r.words ≡ 16) (xs : List ℕ) (small : (v 
 
   -- so they tell the nearest word and both distances
   pub keys_near : near_in keys ≡ nearest_of r xs
-  unfolding near_in
   keys_near = let t = lowest in told t.0 t.1 t.2
 
 -- a turn of the loop that writes two keys, the second half's eight places on
 module _ (lo hi : ℕ → ℕ) (k : List ℕ) (i x y : ℕ) (long : length k ≡ 16) (h : i < 8) (ex : x ≡ lo i) (ey : y ≡ hi i) where
   pub lower_turn : ((u : ℕ) → u < i → get_or k u 0 ≡ lo u) → (u : ℕ) → u < i + 1 → get_or (set (set k i x) (i + 8) y) u 0 ≡ lo u
-  lower_turn p u l = get_or-set_other (set k i x) (i + 8) u y 0 (omega arith) ∙ go (eq-or-lt_of_le (upto u i (rw add-one at l)))
-    where
-      go : (u ≡ i) ⊎ (u < i) → get_or (set k i x) u 0 ≡ lo u
-      go (inl e) = rw e (get_or-set_same k i x 0 (omega arith) ∙ ex)
-      go (inr w) = get_or-set_other k i u x 0 (omega arith) ∙ p u w
+  lower_turn p u l = grind (arith, common_steps)
 
   pub upper_turn : ((u : ℕ) → u < i → get_or k (u + 8) 0 ≡ hi u) → (u : ℕ) → u < i + 1 → get_or (set (set k i x) (i + 8) y) (u + 8) 0 ≡ hi u
-  upper_turn p u l = go (eq-or-lt_of_le (upto u i (rw add-one at l)))
-    where
-      go : (u ≡ i) ⊎ (u < i) → get_or (set (set k i x) (i + 8) y) (u + 8) 0 ≡ hi u
-      go (inl e) = rw e (get_or-set_same (set k i x) (i + 8) y 0 (simp length-set (omega arith)) ∙ ey)
-      go (inr w) =
-          get_or-set_other (set k i x) (i + 8) (u + 8) y 0 (omega arith)
-          ∙ get_or-set_other k i (u + 8) x 0 (omega arith)
-          ∙ p u w
+  upper_turn p u l = grind (arith, common_steps)

@@ -3,6 +3,8 @@
 -- the distances of all sixteen follow from it. Once over the radio, its columns, the turn and the
 -- half; another radio of the family is one test more. Assumes nothing.
 use Rattle.std.proofs.Common.{◌≡◌, ℕ, ◌+◌, ◌-◌, ◌*◌, ◌/◌, ◌%◌, ◌^◌, ◌<◌, ◌≤◌, Bool, true, false, eqb, ltb, List, length, get_or, refl, ◌∙◌, arith, ltb-false, ltb-true, eqb-true}
+use Rattle.std.proofs.lemmas.Nat.{or_of_8}
+use Rattle.std.proofs.Math.Nat.{div-le_self}
 use lib.Bits.{bit_xor, xor_lt}
 use lib.Count.{ones, ones-le}
 use Rattle.codes.specs.Chips.{pick, distance, bad}
@@ -71,7 +73,7 @@ module _ (r : Radio) (S : Sound r) (n : ℕ) (even odd evens odds : ℕ → ℕ)
 pub apart_is : (r : Radio) → Sound r → (n : ℕ) (even odd : ℕ → ℕ) (p q : ℕ) → Columned r n even odd (turned_pair p) (turned_pair q)
     → (xs : List ℕ) → bad xs ≡ false → length xs ≡ r.size → (e o : ℕ) → e ≡ laid (part even xs) n → o ≡ laid (part odd xs) n
     → (v : ℕ) → v < 16 → distance xs (word r v) ≡ apart_at n (parted e p) (parted o q) v
-unfolding apart_at parted
+unfolding apart_at
 apart_is r S n even odd p q C xs b long e o ee eo v h =
     rw (ee, eo)
     (by_test (ltb v 8)
@@ -159,27 +161,15 @@ lowband_odd = 0xC6
 
 -- mode 1's words have four columns, mode 2's two
 pub columned_oqpsk : Columned oqpsk 16 (even_at 4) (odd_at 4) (turned_pair oqpsk_even) (turned_pair oqpsk_odd)
-unfolding word_test chip_test every laid turned_pair turned_bits oqpsk_words turned_words turns turned odd_inverted oqpsk_word
+unfolding word_test chip_test every laid oqpsk_words turned_words turns turned odd_inverted oqpsk_word
 columned_oqpsk = columned_by oqpsk 16 (even_at 4) (odd_at 4) (turned_pair oqpsk_even) (turned_pair oqpsk_odd) refl four_halved refl
 
 pub columned_lowband : Columned lowband 8 (even_at 2) (odd_at 2) (turned_pair lowband_even) (turned_pair lowband_odd)
-unfolding word_test chip_test every laid turned_pair turned_bits lowband_words turned_words turns turned odd_inverted lowband_word
+unfolding word_test chip_test every laid lowband_words turned_words turns turned odd_inverted lowband_word
 columned_lowband = columned_by lowband 8 (even_at 2) (odd_at 2) (turned_pair lowband_even) (turned_pair lowband_odd) refl two_halved refl
 
--- at the numbers that `keys` holds in a turn
-pub parted_is : (x w pair i n : ℕ) → i < 8 → w ≡ turned_pair pair (i % 8) → n ≡ ones (bit_xor x w) → n ≡ parted x pair i
-unfolding parted
-parted_is x w pair i n h e q = let m : i % 8 ≡ i = omega arith in
-    rw (e, m) at q
-
+-- of keys in two halves, where `keys` returns
 module _ (half : ℕ) (e o : ℕ → ℕ) where
-  pub low_is : (i p q : ℕ) → i < 8 → p ≡ e i → q ≡ o i → (p + q) * 32 + i % 8 + 1 ≡ low_key e o i
-  low_is i p q h a b = omega arith
-
-  pub high_is : (i p q : ℕ) → i < 8 → p ≡ e i → q ≡ o i → (p + half - q) * 32 + i % 8 + 9 ≡ high_key half e o i
-  high_is i p q h a b = omega arith
-
-  -- and where it returns
   pub keyed : (k : List ℕ) → ((u : ℕ) → u < 8 → get_or k u 0 ≡ low_key e o u) → ((u : ℕ) → u < 8 → get_or k (u + 8) 0 ≡ high_key half e o u)
       → Keyed (apart_at half e o) k
   unfolding apart_at
@@ -192,12 +182,16 @@ module _ (half : ℕ) (e o : ℕ → ℕ) where
 
 -- counts of so many bits, and of sixteen
 pub parted_few : (k x pair v : ℕ) → x < 2 ^ k → turned_pair pair v < 2 ^ k → parted x pair v ≤ k
-unfolding parted
 parted_few k x pair v h l = ones-le k _ (xor_lt k x _ h l)
 
+turned_lt : (column by : ℕ) → turned_bits column by < 2 ^ 8
+turned_lt column by =
+    let rest = column % 256 / 2 ^ ((8 - by % 8) % 8) in
+    let less : rest < 2 ^ 8 = omega (arith, div-le_self (column % 256) (2 ^ ((8 - by % 8) % 8))) in
+    or_of_8 (column % 256 * 2 ^ (by % 8) % 2 ^ 8) rest (omega arith) less
+
 pub parted_le : (x pair v : ℕ) → x < 2 ^ 16 → parted x pair v ≤ 16
-unfolding turned_pair turned_bits
-parted_le x pair v h = parted_few 16 x pair v h (omega arith)
+parted_le x pair v h = parted_few 16 x pair v h (omega (arith, turned_lt pair v, turned_lt (pair / 256) v))
 
 pub apart_le : (half x y p q : ℕ) → half ≤ 16 → x < 2 ^ 16 → y < 2 ^ 16 → (v : ℕ) → v < 16 → apart_at half (parted x p) (parted y q) v ≤ 32
 unfolding apart_at

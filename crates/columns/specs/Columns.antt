@@ -1,7 +1,8 @@
 -- Not to be believed: what the code computes of chips laid in columns of bits, shown to be the
 -- distances of a radio's words in proofs/Words.antt. Once for every radio whose words are eight
 -- turns of one and the same eight with the odd chips inverted.
-use Rattle.std.specs.Prelude.{◌≡◌, ℕ, zero, suc, ◌+◌, ◌-◌, ◌*◌, ◌/◌, ◌%◌, ◌^◌, ◌<◌, ◌≤◌, List, bit_and, bit_xor, count_ones, nat_lt, slice_index}
+use Rattle.std.specs.Prelude.{◌≡◌, ℕ, ◌+◌, ◌-◌, ◌*◌, ◌/◌, ◌%◌, ◌^◌, ◌<◌, ◌≤◌, List, bit_and, bit_xor, count_ones, nat_lt, min, map, fold, take, slice_index}
+use Rattle.std.specs.Int.{rotate_left, w8}
 use Rattle.codes.specs.Chips.{pick}
 
 -- a number of four columns, a byte each: the first and the third of them beside each other
@@ -14,24 +15,23 @@ folded at by z = z % 2 ^ at + z / 2 ^ at * by
 
 -- of gathered bits, whose chips stand at every second place of a byte: those of the upper four
 -- bytes laid between those of the lower four make four columns of eight bits
-unfoldable pub four_columns : ℕ → ℕ
+abbrev pub four_columns : ℕ → ℕ
 four_columns bits = folded 32 2 (bit_and bits 0x5555555555555555)
 
 -- and where they stand at every fourth place, two columns
-unfoldable pub two_columns : ℕ → ℕ
+abbrev pub two_columns : ℕ → ℕ
 two_columns bits = folded 16 2 (folded 32 4 (bit_and bits 0x1111111111111111))
 
 -- a column of eight bits turned left
-unfoldable pub turned_bits : ℕ → ℕ → ℕ
-turned_bits column by =
-    (column % 256 * 2 ^ (by % 8) % 2 ^ 16 % 256 + column % 256 * 2 ^ (by % 8) % 2 ^ 16 / 256) % 256
+abbrev pub turned_bits : ℕ → ℕ → ℕ
+turned_bits column by = rotate_left w8 (column % 256) by
 
 -- two columns beside each other, each turned
-unfoldable pub turned_pair : ℕ → ℕ → ℕ
+abbrev pub turned_pair : ℕ → ℕ → ℕ
 turned_pair pair by = turned_bits pair by + turned_bits (pair / 256) by * 256
 
 -- how many bits of chips differ from those of a word's pair of columns, turned v times
-unfoldable pub parted : ℕ → ℕ → ℕ → ℕ
+abbrev pub parted : ℕ → ℕ → ℕ → ℕ
 parted chips pair v = count_ones (bit_xor chips (turned_pair pair v))
 
 -- of columns: in the even chips, and in the odd
@@ -65,18 +65,13 @@ low_key e o v = (e v + o v) * 32 + v + 1
 abbrev pub high_key : ℕ → (ℕ → ℕ) → (ℕ → ℕ) → ℕ → ℕ
 high_key half e o v = (e v + half - o v) * 32 + v + 9
 
--- the least of s and of the first k values of f
-unfoldable pub least_from : ℕ → (ℕ → ℕ) → ℕ → ℕ
-least_from s f zero = s
-least_from s f (suc k) = pick (nat_lt (f k) (least_from s f k)) (f k) (least_from s f k)
-
 -- how far a is past b, of numbers of sixteen bits that wrap
 abbrev pub past : ℕ → ℕ → ℕ
-past b a = (a + 2 ^ 16 - b) % 2 ^ 16
+past b a = (a + (2 ^ 16 - b)) % 2 ^ 16
 
 -- the least of sixteen keys from b on; those below b wrap to above all others
-unfoldable pub least_past : ℕ → List ℕ → ℕ
-least_past b keys = (least_from 0xFFFF (λ v. past b (slice_index keys v)) 16 + b) % 2 ^ 16
+abbrev pub least_past : ℕ → List ℕ → ℕ
+least_past b keys = (fold min 0xFFFF (map (past b) (take 16 keys)) + b) % 2 ^ 16
 
 -- what the least key m tells, and n, the least key above it: 1024 times the distance of n, 16 times
 -- that of m, and the number of m
@@ -84,5 +79,5 @@ abbrev pub near_of : ℕ → ℕ → ℕ
 near_of m n = n / 32 * 1024 + m / 32 * 16 + (m + 15) % 16
 
 -- of sixteen keys
-unfoldable pub near_in : List ℕ → ℕ
+abbrev pub near_in : List ℕ → ℕ
 near_in keys = near_of (least_past 0 keys) (least_past ((least_past 0 keys + 1) % 2 ^ 16) keys)

@@ -7,74 +7,120 @@
 // (proofs/Words.antt, proofs/Leasts.antt).
 #![tactic(auto)]
 
-ghost use Rattle.std.specs.Prelude.{◌≡◌, ◌^◌, ◌<◌, ◌≤◌, count_ones};
+ghost use Rattle.std.specs.Prelude.{◌≡◌, ℕ, ◌/◌, ◌≤◌};
+ghost use Rattle.std.proofs.Common.{lit≤};
 ghost use Rattle.codes.specs.Near.{nearest_in};
-ghost use Rattle.columns.specs.Columns.{first_third, four_columns, two_columns, turned_bits, turned_pair, even_parted, odd_parted, apart_at, Half, Keyed, least_past, near_in};
+ghost use Rattle.codes.specs.declared.TheConstants.{OQPSK, LOWBAND};
+ghost use Rattle.columns.specs.Columns.{first_third, four_columns, two_columns, turned_pair, parted, even_parted, odd_parted, apart_at, Half, Keyed, least_past, near_in};
 
-// Mode 1: its 32 chips are four columns. A function for each radio, so that the words' columns are
-// constants in the loop.
-pub fn nearest_of_four(bits: u64) -> u32
-    ensures { result ≡ nearest_in 1 bits }
-{
-    let k = keys(four(bits), four(codes::OQPSK.word), 16);
-    near(&k)
+// What such radios differ in: how gathered chips are laid in columns, word 0 as it is gathered, and
+// how many odd chips a word has. For each radio its own loop is made, of constants.
+trait Columned {
+    ghost laid: { ℕ → ℕ };
+
+    ghost WORD: { ℕ };
+
+    ghost HALF: { ℕ };
+
+    const WORD: u64;
+
+    const HALF: u16;
+
+    fn columns(bits: u64) -> u64
+        ensures { result ≡ laid bits };
+
+    ghost few: { HALF ≤ 16 };
+}
+
+// Mode 1: its 32 chips are four columns.
+impl Columned for codes::Oqpsk {
+    ghost laid = { four_columns };
+
+    ghost WORD = { OQPSK.word };
+
+    ghost HALF = { 16 };
+
+    ghost few = { lit≤ tt };
+
+    const WORD: u64 = codes::OQPSK.word;
+
+    const HALF: u16 = 16;
+
+    // Of four eights every second bit of a byte is a chip's, and the mask leaves nothing else; the
+    // upper four bytes' bits go between the lower four's.
+    fn columns(bits: u64) -> u64 {
+        let z = bits & 0x5555555555555555;
+        z % 0x100000000 + z / 0x100000000 * 2
+    }
 }
 
 // Mode 2: its 16 chips are two columns.
+impl Columned for codes::LowBand {
+    ghost laid = { two_columns };
+
+    ghost WORD = { LOWBAND.word };
+
+    ghost HALF = { 8 };
+
+    ghost few = { lit≤ tt };
+
+    const WORD: u64 = codes::LOWBAND.word;
+
+    const HALF: u16 = 8;
+
+    // Of two eights every fourth bit of a byte is a chip's; pairs of bytes are laid over each
+    // other, each a bit higher than the pair before.
+    fn columns(bits: u64) -> u64 {
+        let z = bits & 0x1111111111111111;
+        let y = z % 0x100000000 + z / 0x100000000 * 4;
+        y % 0x10000 + y / 0x10000 * 2
+    }
+}
+
+// Two functions: as one over `Columned` its promise would be a law of each `impl`, and such a law
+// can't cite proofs/Chosen.antt (tried). Three numbers in one, as `nearest` promises them.
+pub fn nearest_of_four(bits: u64) -> u32
+    ensures { result ≡ nearest_in 1 bits }
+{
+    near(&keys::<codes::Oqpsk>(bits))
+}
+
 pub fn nearest_of_two(bits: u64) -> u32
     ensures { result ≡ nearest_in 2 bits }
 {
-    let k = keys(two(bits), two(codes::LOWBAND.word), 8);
-    near(&k)
+    near(&keys::<codes::LowBand>(bits))
 }
 
-// The columns of four eights. Every second bit of a byte is a chip's, and the mask leaves nothing
-// else; the upper four bytes' bits go between the lower four's.
-fn four(bits: u64) -> u64
-    ensures { result ≡ four_columns bits }
+// Of four columns the first and the third beside each other, which are the even chips, and the
+// second and the fourth, the odd. Of two columns, one and one.
+fn even_and_odd(columns: u64) -> (u16, u16)
+    ensures even { result.0 ≡ first_third columns }
+    ensures odd { result.1 ≡ first_third (columns / 256) }
 {
-    let z = bits & 0x5555555555555555;
-    z % 0x100000000 + z / 0x100000000 * 2
-}
-
-// The columns of two eights. Every fourth bit of a byte is a chip's; pairs of bytes are laid over
-// each other, each a bit higher than the pair before.
-fn two(bits: u64) -> u64
-    ensures { result ≡ two_columns bits }
-{
-    let z = bits & 0x1111111111111111;
-    let y = z % 0x100000000 + z / 0x100000000 * 4;
-    y % 0x10000 + y / 0x10000 * 2
-}
-
-// The first and the third of four columns beside each other: the even chips, or, of columns moved
-// down by one, the odd. Of two columns, the first.
-fn first_third(t: u64) -> u16
-    ensures { result ≡ first_third t }
-{
-    (t % 256 + t / 0x10000 % 256 * 256) as u16
+    let [first, second, third, fourth, ..] = columns.to_le_bytes();
+    (
+        u16::from_le_bytes([first, third]),
+        u16::from_le_bytes([second, fourth]),
+    )
 }
 
 // Keys of the words, from the columns of the symbol and of word 0: the distance above the word's
-// number and one. (Of the number alone the first would be 0, and the back end would leave that word
-// out of its vectors.) `half` is how many odd chips a word has.
-fn keys(symbol: u64, word: u64, half: u16) -> [u16; 16]
-    requires { (half ≤ 16) × Half half (odd_parted symbol word) }
-    ensures { Keyed (apart_at half (even_parted symbol word) (odd_parted symbol word)) result }
+// number and one: one number and no pair, since the order of numbers is the one that is wanted. (Of
+// the word's number alone the first would be 0, and the back end would leave that word out of its
+// vectors.)
+fn keys<R: Columned>(bits: u64) -> [u16; 16]
+    requires { Half R.HALF (odd_parted (R.laid bits) (R.laid R.WORD)) }
+    ensures { Keyed (apart_at R.HALF (even_parted (R.laid bits) (R.laid R.WORD)) (odd_parted (R.laid bits) (R.laid R.WORD))) result }
 {
-    let evens = first_third(symbol);
-    let odds = first_third(symbol / 256);
-    let even = first_third(word);
-    let odd = first_third(word / 256);
+    let (evens, odds) = even_and_odd(R::columns(bits));
+    let (even, odd) = even_and_odd(R::columns(R::WORD));
     let mut k = [0u16; 16];
-    let mut r: usize = 0;
-    while r < 8 {
-        let n = (r % 8) as u16;
-        let e = ones(evens ^ turned_pair(even, n));
-        let o = ones(odds ^ turned_pair(odd, n));
-        k[r] = (e + o) * 32 + n + 1;
-        k[r + 8] = (e + half - o) * 32 + n + 9;
-        r += 1;
+    for n in 0..8u16 {
+        let e = parted(evens, even, n);
+        let o = parted(odds, odd, n);
+        let v = usize::from(n);
+        k[v] = (e + o) * 32 + n + 1;
+        k[v + 8] = (e + R::HALF - o) * 32 + n + 9;
     }
     k
 }
@@ -85,8 +131,9 @@ fn near(k: &[u16; 16]) -> u32
     ensures { result ≡ near_in k.now }
 {
     let m = least_past(k, 0);
-    let n = wide(least_past(k, std::num::wrapping_add_u16(m, 1)));
-    n / 32 * 1024 + wide(m) / 32 * 16 + (wide(m) + 15) % 16
+    let n = u32::from(least_past(k, m.wrapping_add(1)));
+    let m = u32::from(m);
+    n / 32 * 1024 + m / 32 * 16 + (m + 15) % 16
 }
 
 // The least key from a number on. Keys below it wrap to the top, so that no key is left out by a
@@ -94,41 +141,24 @@ fn near(k: &[u16; 16]) -> u32
 fn least_past(k: &[u16; 16], from: u16) -> u16
     ensures { result ≡ least_past from k.now }
 {
-    let mut m: u16 = 0xFFFF;
-    let mut v: usize = 0;
-    while v < 16 {
-        let past = std::num::wrapping_sub_u16(k[v], from);
-        if past < m {
-            m = past;
-        }
-        v += 1;
-    }
-    std::num::wrapping_add_u16(m, from)
+    k.iter()
+        .map(|key| key.wrapping_sub(from))
+        .fold(u16::MAX, u16::min)
+        .wrapping_add(from)
 }
 
-// Two columns of a word, turned left by so many bits.
+// How many of two columns' chips differ from those of a word's, turned left by so many bits.
+fn parted(chips: u16, pair: u16, by: u16) -> u16
+    ensures { (result ≡ parted chips pair by) × (result ≤ 16) }
+{
+    (chips ^ turned_pair(pair, by)).count_ones() as u16
+}
+
+// Two columns of a word, turned.
 fn turned_pair(pair: u16, by: u16) -> u16
     ensures { result ≡ turned_pair pair by }
 {
-    turned(pair, by) + turned(pair / 256, by) * 256
-}
-
-// The column in the lower byte, turned.
-fn turned(column: u16, by: u16) -> u16
-    ensures { (result ≡ turned_bits column by) × (result < 2 ^ 8) }
-{
-    let x = column % 256 << (by % 8);
-    (x % 256 + x / 256) % 256
-}
-
-fn ones(x: u16) -> u16
-    ensures { (result ≡ count_ones x) × (result ≤ 16) }
-{
-    (u16::count_ones(x) % 32) as u16
-}
-
-fn wide(x: u16) -> u32
-    ensures { result ≡ x }
-{
-    x as u32
+    let by = u32::from(by);
+    let [first, third] = pair.to_le_bytes();
+    u16::from_le_bytes([first.rotate_left(by), third.rotate_left(by)])
 }

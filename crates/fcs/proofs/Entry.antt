@@ -1,7 +1,7 @@
 -- An octet by the table: what eight bits of 0 make of the low eight bits of register and octet is
 -- looked up, and the others come down. That the table has its rule is one computed test. Assumes
 -- nothing.
-use mathlib.Core.Path.{◌≡◌, sym, ap, ◌∙◌}
+use mathlib.Core.Path.{◌≡◌, refl, sym, ap, ◌∙◌}
 use mathlib.Core.Bool.{true}
 use mathlib.Core.List.{List}
 use Prim.Native.Nat.{ℕ, ◌*◌, ◌/◌, ◌%◌, ◌<◌}
@@ -13,14 +13,19 @@ use lib.ListN.{length, get_or}
 use borrow.Author.Tests.{eqb-true}
 use Rattle.codes.proofs.Tests.{every, each}
 use Rattle.frame.specs.Frame.{digits}
-use Rattle.fcs.specs.Fcs.{register_after}
+use Rattle.fcs.specs.Fcs.{entered, register_after}
 use Rattle.fcs.specs.Table.{Ruled}
+use Rattle.fcs.specs.declared.TheConstants.{TABLE}
 use Rattle.fcs.proofs.Register.{enter_digits, comes_down}
 
 -- the test of each entry, carried to each
 pub ruled : (table : List ℕ) → length table ≡ 256 → every (λ k. eqb (get_or table k 0) (register_after k (digits 8 2 0))) 256 ≡ true → Ruled table
 ruled table l t =
     record { long = l; rule = λ k h. eqb-true _ _ (each (λ k. eqb (get_or table k 0) (register_after k (digits 8 2 0))) 256 t k h) }
+
+pub table_ruled : Ruled TABLE
+unfolding every digits register_after entered
+table_ruled = ruled TABLE refl refl
 
 -- a number is its low eight bits, and the others eight places up
 pub in_two : (x : ℕ) → bit_xor (x % 256) (x / 256 * 256) ≡ x

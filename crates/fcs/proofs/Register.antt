@@ -2,15 +2,16 @@
 -- after the other. Assumes nothing.
 use mathlib.Core.Path.{◌≡◌, refl, sym, ap, ◌∙◌}
 use mathlib.Core.List.{List, [], ◌∷◌, ◌++◌}
-use Prim.Native.Nat.{ℕ, zero, suc, ◌+◌, ◌-◌, ◌*◌, ◌/◌, ◌%◌, ◌^◌, ◌≤◌, ◌<◌}
-use native.Mathlib.Nat.{pow-suc, mul_assoc, mul-one}
+use Prim.Native.Nat.{ℕ, zero, suc, ◌+◌, ◌-◌, ◌*◌, ◌/◌, ◌%◌, ◌^◌, ◌<◌}
+use native.Mathlib.Nat.{pow-suc, mul_assoc, mul-one, div-div-eq-div-mul}
 use native.Mathlib.Numerals.{add-one}
 use native.Mathlib.Omega.{arith}
-use lib.Bits.{bit_xor, xor_zero_r}
-use lib.ListN.{length, get_or, drop, drop_of_length-le}
-use lib.Seq.{drop-cons}
+use lib.Bits.{bit_and, bit_xor, xor_zero_r}
+use Rattle.std.specs.List.{fold}
+use Rattle.std.proofs.lemmas.Nat.{and_mask}
 use Rattle.frame.specs.Frame.{digits}
 use Rattle.fcs.specs.Fcs.{polynomial, entered, register_after, bits, fcs_of}
+use Rattle.fcs.specs.declared.TheConstants.{START}
 use Rattle.fcs.proofs.Xor.{xor_half, xor_low, xor_swap}
 
 -- Something added to the register before a bit enters is half of it added after, and its lowest bit
@@ -45,12 +46,14 @@ comes_down (suc n) x y =
     ∙ ap (λ (z : ℕ). register_after z (digits n 2 0)) (entered_xor x (y * 2 ^ n * 2) 0 ∙ rw (e, h))
     ∙ comes_down n (entered x 0) y
 
--- the next bit of a number enters
-pub bit_enters : (k c x : ℕ) → k < 8 → register_after c (digits (8 - k) 2 x) ≡ register_after (entered c (x % 2)) (digits (8 - (k + 1)) 2 (x / 2))
+-- bit k of a number enters before those from k + 1 on
+pub bit_enters : (k c x : ℕ) → k < 8
+    → register_after c (digits (8 - k) 2 (x / 2 ^ k)) ≡ register_after (entered c (bit_and (x / 2 ^ k) 1)) (digits (8 - (k + 1)) 2 (x / 2 ^ (k + 1)))
 unfolding digits register_after
 bit_enters k c x h =
     let e : 8 - k ≡ suc (8 - (k + 1)) = omega arith in
-    rw e
+    let q : x / 2 ^ (k + 1) ≡ x / 2 ^ k / 2 = rw (add-one k, pow-suc 2 k) (sym (div-div-eq-div-mul x (2 ^ k) 2)) in
+    rw (e, q, and_mask (x / 2 ^ k) 1)
 
 -- bits after bits
 pub after_append : (c : ℕ) (bs ds : List ℕ) → register_after c (bs ++ ds) ≡ register_after (register_after c bs) ds
@@ -58,28 +61,13 @@ unfolding register_after
 after_append c [] ds = refl
 after_append c (b ∷ bs) ds = after_append (entered c b) bs ds
 
--- The FCS is what the octets from i on still make of the register.
-abbrev pub Coming : List ℕ → ℕ → ℕ → Type 0
-Coming octets c i = (i ≤ length octets) × (fcs_of octets ≡ register_after c (bits (drop i octets)))
-
--- so it is before the first
-pub none_came : (octets : List ℕ) → Coming octets 0 0
-unfolding fcs_of
-none_came octets = (omega arith, refl)
-
--- and once the next has entered
-pub next_came : (octets : List ℕ) (c i : ℕ) → Coming octets c i → i < length octets → (r : ℕ) → r ≡ register_after c (digits 8 2 (get_or octets i 0))
-    → Coming octets r (i + 1)
-unfolding bits
-next_came octets c i p h r e = (
-  omega arith,
-  p.1
-      ∙ ap (λ (xs : List ℕ). register_after c (bits xs)) (drop-cons octets i 0 h)
-      ∙ after_append c (digits 8 2 (get_or octets i 0)) (bits (drop (suc i) octets))
-      ∙ rw (e, add-one i),
-)
-
--- after the last the register is the FCS
-pub all_came : (octets : List ℕ) (c i : ℕ) → Coming octets c i → length octets ≤ i → c ≡ fcs_of octets
+-- octets enter one after the other, each by its bits
+enter_from : (c : ℕ) (octets : List ℕ) → fold (λ r x. register_after r (digits 8 2 x)) c octets ≡ register_after c (bits octets)
 unfolding bits register_after
-all_came octets c i p h = sym (p.1 ∙ rw (drop_of_length-le octets h))
+enter_from c [] = refl
+enter_from c (x ∷ xs) = enter_from (register_after c (digits 8 2 x)) xs ∙ sym (after_append c (digits 8 2 x) (bits xs))
+
+-- what they make of the code's start value is the FCS
+pub octets_enter : (octets : List ℕ) (c : ℕ) → c ≡ fold (λ r x. register_after r (digits 8 2 x)) START octets → c ≡ fcs_of octets
+unfolding fcs_of
+octets_enter octets c e = e ∙ enter_from START octets

@@ -1,4 +1,5 @@
--- What `by_entry` asks of a table. Not to be believed: shown of the code's by one computed test.
+-- What a table has to hold for octets to enter at once. Not to be believed: shown of the code's by
+-- one computed test.
 use Rattle.std.specs.Prelude.{◌≡◌, ℕ, ◌<◌, List, length, get_or}
 use Rattle.frame.specs.Frame.{digits}
 use Rattle.fcs.specs.Fcs.{register_after}

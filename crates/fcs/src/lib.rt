@@ -8,7 +8,6 @@
 ghost use Rattle.std.specs.Prelude.{◌≡◌, ◌<◌};
 ghost use Rattle.frame.specs.Frame.{digits};
 ghost use Rattle.fcs.specs.Fcs.{entered, register_after, fcs_of};
-ghost use Rattle.fcs.specs.Table.{Ruled};
 
 // The ITU-T polynomial without its x^16, the highest power in the lowest bit.
 const POLYNOMIAL: u32 = 0x8408;
@@ -16,8 +15,9 @@ const POLYNOMIAL: u32 = 0x8408;
 // What stands in the register before the first bit.
 const START: u32 = 0;
 
-// What eight bits of 0 make of each register below 256.
-const TABLE: [u16; 256] = [
+// What eight bits of 0 make of each register below 256. Not a constant: one that is indexed is made
+// anew at each index.
+static TABLE: [u16; 256] = [
     0x0000, 0x1189, 0x2312, 0x329B, 0x4624, 0x57AD, 0x6536, 0x74BF, 0x8C48, 0x9DC1, 0xAF5A, 0xBED3,
     0xCA6C, 0xDBE5, 0xE97E, 0xF8F7, 0x1081, 0x0108, 0x3393, 0x221A, 0x56A5, 0x472C, 0x75B7, 0x643E,
     0x9CC9, 0x8D40, 0xBFDB, 0xAE52, 0xDAED, 0xCB64, 0xF9FF, 0xE876, 0x2102, 0x308B, 0x0210, 0x1399,
@@ -42,73 +42,51 @@ const TABLE: [u16; 256] = [
     0x3DE3, 0x2C6A, 0x1EF1, 0x0F78,
 ];
 
-// The FCS of octets, bit by bit.
+// The FCS of octets, bit by bit. C calls this and `by_table`; their one loop is std's `fold`.
+#[tactic(auto, using(crate::proofs::Register::octets_enter))]
 pub fn bitwise(octets: &[u8]) -> u32
     ensures { result ≡ fcs_of octets.now }
 {
-    let mut register = START;
-    let mut i: usize = 0;
-    while i < octets.len() {
-        register = by_bits(register, octets[i]);
-        i += 1;
+    octets
+        .iter()
+        .fold(START, |register, &octet| by_bits(register, octet))
+}
+
+// The eight bits of an octet enter, its lowest first.
+fn by_bits(mut register: u32, octet: u8) -> u32
+    ensures { result ≡ register_after register (digits 8 2 octet) }
+{
+    for k in 0..u8::BITS {
+        register = enter(register, u32::from(octet >> k & 1));
     }
     register
 }
 
-// The eight bits of an octet enter, its lowest first.
-fn by_bits(register: u32, octet: u8) -> u32
-    ensures { result ≡ register_after register (digits 8 2 octet) }
-{
-    let mut after = register;
-    let mut rest = octet;
-    let mut k: usize = 0;
-    while k < 8 {
-        after = enter(after, (rest % 2) as u32);
-        rest = rest / 2;
-        k += 1;
-    }
-    after
-}
-
 // One bit enters.
 fn enter(register: u32, bit: u32) -> u32
-    requires { bit < 2 }
     ensures { result ≡ entered register bit }
 {
-    if register % 2 == bit {
+    if (register ^ bit) % 2 == 0 {
         register / 2
     } else {
         register / 2 ^ POLYNOMIAL
     }
 }
 
-// The FCS of octets, by the table. The table is copied once and lent: a constant that is indexed is
-// made anew at each index.
+// The FCS of octets, by the table.
+#[tactic(auto, using(crate::proofs::Register::octets_enter))]
 pub fn by_table(octets: &[u8]) -> u32
     ensures { result ≡ fcs_of octets.now }
 {
-    let table = TABLE;
-    let mut register = START;
-    let mut i: usize = 0;
-    while i < octets.len() {
-        register = by_entry(&table, register, octets[i]);
-        i += 1;
-    }
-    register
+    octets
+        .iter()
+        .fold(START, |register, &octet| by_entry(register, octet))
 }
 
-// The eight bits of an octet enter at once.
-fn by_entry(table: &[u16; 256], register: u32, octet: u8) -> u32
-    requires { Ruled table.now }
+// The eight bits of an octet enter at once. The cast loses nothing: it is of a number below 256.
+fn by_entry(register: u32, octet: u8) -> u32
     ensures { result ≡ register_after register (digits 8 2 octet) }
 {
-    let low = ((register ^ octet as u32) % 256) as usize;
-    register / 256 ^ wide(table[low])
-}
-
-// A function of its own, so that a caller need not show that an entry fits.
-fn wide(entry: u16) -> u32
-    ensures { result ≡ entry }
-{
-    entry as u32
+    let low = ((register ^ u32::from(octet)) % 256) as usize;
+    register / 256 ^ u32::from(TABLE[low])
 }

@@ -2,18 +2,17 @@
 -- Assumes nothing.
 use mathlib.Core.Path.{◌≡◌, refl, ap, ◌∙◌}
 use mathlib.Core.Bool.{true}
-use Prim.Native.Nat.{ℕ, ◌+◌, ◌*◌, ◌%◌, ◌^◌, ◌≤◌}
+use Prim.Native.Nat.{ℕ, ◌+◌, ◌*◌, ◌^◌, ◌≤◌}
 use native.Mathlib.Nat.{mul-le-mul_left, mul-le-mul_right}
 use native.Mathlib.Omega.{arith}
 use lib.Dec.{leb}
 use borrow.Author.Tests.{leb-true}
 use Rattle.codes.specs.declared.Phy.{Phy}
-use Rattle.codes.specs.Chips.{pick}
 use Rattle.codes.specs.Radio.{Radio, known, radio_of}
 use Rattle.codes.specs.Phy.{phy_of, no_phy, phy_at}
 use Rattle.codes.proofs.Tests.{by_test}
-use Rattle.codes.proofs.Modes.{every_row, row_test, phy_known, phy_sized}
-use Rattle.frame.specs.Frame.{per_octet, sent}
+use Rattle.codes.proofs.Modes.{every_row, row_test, phy_known}
+use Rattle.frame.specs.Frame.{per_octet}
 use Rattle.frame.specs.Putting.{octet_chips}
 
 -- a bound that antt computes for each row
@@ -49,26 +48,17 @@ module _ (mode : ℕ) (k : known mode ≡ true) (p : Phy) (e : p ≡ phy_at mode
   pub row_size : p.size ≡ (radio_of mode).size
   row_size = ap (λ (q : Phy). q.size) is_row
 
-  pub row_limit : p.limit ≡ (radio_of mode).limit
-  row_limit = ap (λ (q : Phy). q.limit) is_row
-
   pub row_per : p.per ≡ per_octet (radio_of mode)
   row_per = ap (λ (q : Phy). q.per) is_row
 
   pub row_values : p.values ≡ 2 ^ (radio_of mode).bits
   row_values = ap (λ (q : Phy). q.values) is_row
 
-  -- the symbol sent for the raw one in the lowest bits
-  pub row_sent : (x v rest : ℕ) → x ≡ pick p.chained ((v + rest % p.values) % 2) (rest % p.values)
-      → x ≡ sent (radio_of mode) v (rest % 2 ^ (radio_of mode).bits)
-  row_sent x v rest q = q ∙ ap (λ (z : Phy). pick z.chained ((v + rest % z.values) % 2) (rest % z.values)) is_row
+  pub row_chained : p.chained ≡ (radio_of mode).chained
+  row_chained = ap (λ (q : Phy). q.chained) is_row
 
   pub row_octet : p.per * p.size ≡ octet_chips (radio_of mode)
   row_octet = ap (λ (q : Phy). q.per * q.size) is_row
-
--- and where its symbols have chips, there is a radio
-pub row_sized : (mode : ℕ) (p : Phy) → p ≡ phy_at mode → (p.size ≡ 0 → ⊥) → (known mode ≡ true) × (p.per ≡ per_octet (radio_of mode))
-row_sized mode p e n = let k = (phy_sized mode p e n).0 in (k, row_per mode k p e)
 
 -- the symbols of an octet in a mode's row are few, where there is a radio and where there is none
 pub per_few : (mode : ℕ) (p : Phy) → p ≡ phy_at mode → p.per ≤ 8

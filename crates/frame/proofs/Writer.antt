@@ -12,23 +12,22 @@ use Rattle.codes.specs.Radio.{known, radio_of}
 use Rattle.codes.proofs.Tests.{by_test}
 use Rattle.codes.proofs.Facts.{sound}
 use Rattle.frame.specs.Outcome.{Outcome, outcome}
-use Rattle.frame.specs.Frame.{plain, frame, frame_with, symbols, chips_of}
+use Rattle.frame.specs.Frame.{plain, frame}
 use Rattle.frame.specs.declared.Written.{Written}
 use Rattle.frame.specs.Write.{refused, written}
-use Rattle.frame.specs.Putting.{over, octet_chips}
+use Rattle.frame.specs.Putting.{octet_chips}
 use Rattle.frame.proofs.Modes.{few_chips}
-use Rattle.frame.proofs.Over.{over_front}
 use Rattle.frame.proofs.Count.{frame_long}
 
 module _ (mode : ℕ) (report buffer : List ℕ) where
-  pub no_radio : (w : Written) → w ≡ refused BADMODE → known mode ≡ false → outcome w buffer ≡ written mode report buffer
+  pub no_radio : known mode ≡ false → outcome (refused BADMODE) buffer ≡ written mode report buffer
   unfolding written
-  no_radio w e k = rw (e, k)
+  no_radio k = rw k
 
   module _ (m : known mode ≡ true) where
-    pub too_long : (w : Written) → w ≡ refused TOOLONG → 127 < length report → outcome w buffer ≡ written mode report buffer
+    pub too_long : 127 < length report → outcome (refused TOOLONG) buffer ≡ written mode report buffer
     unfolding written
-    too_long w e h = rw (e, m, lt-ltb 127 (length report) h)
+    too_long h = rw (m, lt-ltb 127 (length report) h)
 
     module _ (l : length report ≤ 127) (count : ℕ) (e : count ≡ (6 + length report) * octet_chips (radio_of mode)) where
       is_count : length (frame (radio_of mode) report) ≡ count
@@ -37,16 +36,14 @@ module _ (mode : ℕ) (report buffer : List ℕ) where
       pub few : count ≤ 15960
       few = rw e (few_chips mode (length report) l)
 
-      pub no_room : (w : Written) → w ≡ refused NOROOM → length buffer < count → outcome w buffer ≡ written mode report buffer
+      pub no_room : length buffer < count → outcome (refused NOROOM) buffer ≡ written mode report buffer
       unfolding written
-      no_room w q h = rw (q, m, le-ltb 127 (length report) l, is_count, lt-ltb (length buffer) count h)
+      no_room h = rw (m, le-ltb 127 (length report) l, is_count, lt-ltb (length buffer) count h)
 
-      pub done : count ≤ length buffer → (out : List ℕ) → out ≡ over buffer 0 (chips_of (radio_of mode) (symbols (radio_of mode) report))
-          → outcome (record { number = DONE; chips = count }) out ≡ written mode report buffer
-      unfolding written frame_with
-      done h out w = rw (m, le-ltb 127 (length report) l, is_count, le-ltb (length buffer) count h)
-          (ap (outcome _) (w ∙ over_front buffer (chips_of (radio_of mode) (symbols (radio_of mode) report))
-          ∙ ap (λ (k : ℕ). frame (radio_of mode) report ++ drop k buffer) is_count))
+      pub done : count ≤ length buffer → (part : List ℕ) → part ≡ frame (radio_of mode) report
+          → outcome (record { number = DONE; chips = count }) (part ++ drop count buffer) ≡ written mode report buffer
+      unfolding written
+      done h part w = rw (m, le-ltb 127 (length report) l, is_count, le-ltb (length buffer) count h, w)
 
 -- the chips that it counts are in the buffer, which keeps its length
 pub chips_fit : (mode : ℕ) (report buffer : List ℕ) (w : Written) (b : List ℕ)

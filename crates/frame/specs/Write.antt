@@ -1,6 +1,7 @@
 -- The writer (document 01, "Numbers given back").
-use Rattle.std.specs.Prelude.{ℕ, List, ◌++◌, length, drop, ltb}
-use Rattle.codes.specs.Numbers.{DONE, BADMODE, TOOLONG, NOROOM}
+use Rattle.std.specs.Prelude.{ℕ, List, ◌++◌, length, drop, ltb, Result, Ok, Err}
+use Rattle.codes.specs.declared.Refusal.{Refusal}
+use Rattle.codes.specs.Numbers.{DONE, BADMODE, TOOLONG, NOROOM, number_of}
 use Rattle.codes.specs.Chips.{pick}
 use Rattle.codes.specs.Radio.{known, radio_of}
 use Rattle.frame.specs.declared.Written.{Written}
@@ -10,6 +11,11 @@ use Rattle.frame.specs.Frame.{frame}
 -- Refused: chip count 0, buffer unchanged.
 abbrev pub refused : ℕ → Written
 refused x = record { number = x; chips = 0 }
+
+-- a chip count, or why there is none, as the answer that it is
+abbrev pub answer_of : Result ℕ Refusal → Written
+answer_of (Ok chips) = record { number = DONE; chips = chips }
+answer_of (Err why) = refused (number_of why)
 
 abbrev pub unwritten : ℕ → List ℕ → Outcome Written
 unwritten x buffer = outcome (refused x) buffer

@@ -3,12 +3,14 @@
 #![tactic(auto)]
 
 ghost use Rattle.std.specs.Prelude.{◌≡◌};
-ghost use Rattle.frame.specs.Write.{refused};
+ghost use Rattle.frame.specs.Write.{refused, answer_of};
+
+use codes::Refusal;
 
 // The start octet.
 pub const START: u8 = 0xA7;
 
-// What the writer gives back: 0 and the chip count, or a refusal and 0.
+// What the writer gives back, C's struct: 0 and the chip count, or a refusal and 0.
 #[repr(C)]
 #[derive(Drop)]
 pub struct Written {
@@ -16,7 +18,21 @@ pub struct Written {
     pub chips: u32,
 }
 
-// Refused: chip count 0.
+impl From<Result<u32, Refusal>> for Written {
+    ghost from_gives = { λ outcome written. written ≡ answer_of outcome };
+
+    fn from(outcome: Result<u32, Refusal>) -> Written {
+        match outcome {
+            Ok(chips) => Written {
+                number: codes::DONE,
+                chips,
+            },
+            Err(why) => refusal(why.into()),
+        }
+    }
+}
+
+// Refused: chip count 0. Of any number, as it promises (`refused`).
 pub fn refusal(number: u32) -> Written
     ensures { result ≡ refused number }
 {

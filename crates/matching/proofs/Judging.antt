@@ -1,7 +1,7 @@
 -- What `judge` makes of what `nearest` gives is the symbol of the bits. Once over the radio.
 -- Assumes nothing.
-use mathlib.Core.Path.{◌≡◌, refl}
-use mathlib.Core.Bool.{false}
+use mathlib.Core.Path.{◌≡◌, refl, ap, ◌∙◌}
+use mathlib.Core.Bool.{true, false}
 use mathlib.Core.List.{List}
 use Prim.Native.Nat.{ℕ, ◌+◌, ◌*◌, ◌/◌, ◌%◌, ◌^◌, ◌≤◌, ◌<◌}
 use native.Mathlib.Omega.{arith}
@@ -10,6 +10,7 @@ use lib.Dec.{leb, ltb}
 use borrow.Author.Tests.{leb-true, ltb-true}
 use Rattle.codes.specs.Chips.{bad}
 use Rattle.codes.specs.Radio.{Radio, word, radio_of, known}
+use Rattle.codes.specs.declared.Symbol.{Symbol}
 use Rattle.codes.specs.Symbol.{nearest, nearest_word, next_nearest, symbol_of}
 use Rattle.codes.specs.Gathered.{layout_of, chip_in, chips_in, symbol_in}
 use Rattle.codes.specs.Near.{nearest_of, nearest_in}
@@ -17,7 +18,7 @@ use Rattle.matching.specs.Judged.{judged, judged_at}
 use Rattle.codes.proofs.Tests.{by_test}
 use Rattle.codes.proofs.Modes.{row_test}
 use Rattle.codes.proofs.Chips.{distance_le}
-use Rattle.codes.proofs.Gathering.{listed_long, chips_in_lem}
+use Rattle.codes.proofs.Gathering.{Loop, loop_ends, listed_long, chips_in_lem}
 use Rattle.codes.proofs.Unique.{some_words}
 use Rattle.codes.proofs.Facts.{sound}
 use Rattle.codes.proofs.Leasts.{nearest_at}
@@ -50,3 +51,9 @@ near_symbol mode bits =
     (chips_in (radio_of mode) bits) (chips_in_lem (layout_of (radio_of mode)) bits (radio_of mode).size)
     (rw (listed_long (chip_in (layout_of (radio_of mode)) bits) (radio_of mode).size) (ltb-true _ _ (row_test (λ r. ltb r.size 64) refl mode)))))
     (λ k. rw k)
+
+-- and after the last eight of a part it is the part's
+pub judged_part : (mode : ℕ) → known mode ≡ true → (part : List ℕ) → length part ≡ (radio_of mode).size → {k bits : ℕ} → 4 ≤ k → Loop mode part k bits
+    → {near : ℕ} → near ≡ nearest_in mode bits → {x : Symbol} → x ≡ judged_at mode near → x ≡ symbol_of (radio_of mode) part
+judged_part mode m part long {k} {bits} h L n e =
+    e ∙ ap (judged_at mode) n ∙ near_symbol mode bits ∙ loop_ends mode m part long k bits h L

@@ -12,7 +12,7 @@ ghost use Rattle.codes.specs.Near.{nearest_in};
 // The two words differ in all fifteen chips, so the distance from the word for 1 is what is left of
 // fifteen, and the nearer word is that for 0 up to seven; the next-nearest is the other. Four bits
 // inverted are what is left of fifteen; a branch on which word it is would be a guess at every
-// symbol.
+// symbol. All in one value, as `nearest` of lib.rt promises it (`nearest_in`).
 pub fn nearest(bits: u64) -> u32
     ensures { result ≡ nearest_in 0 bits }
 {
@@ -31,7 +31,8 @@ fn apart(bits: u64) -> u32
 }
 
 // The sum of eight digits, where it is below 256. The halves are added first, so that the product
-// fits: its fourth digit is the sum of four.
+// fits: its fourth digit is the sum of four. The cast fits, below 256, where `TryFrom` has an error
+// that can't be.
 fn digit_sum(z: u64) -> u32
     ensures { result ≡ digit_sum z }
 {

@@ -4,97 +4,81 @@
 // symbol (proofs/Judging.antt).
 #![tactic(auto)]
 
-ghost use Rattle.std.specs.Prelude.{◌≡◌, true, length};
-ghost use Rattle.codes.specs.Radio.{known, radio_of};
-ghost use Rattle.codes.specs.Symbol.{refused, symbol_of, match_of};
+ghost use Rattle.std.specs.Prelude.{◌≡◌};
+ghost use Rattle.codes.specs.Numbers.{number_of};
+ghost use Rattle.codes.specs.Symbol.{refused, match_of};
 ghost use Rattle.codes.specs.Near.{nearest_in};
-ghost use Rattle.matching.specs.Judged.{judged_at};
+ghost use Rattle.matching.specs.Judged.{judged_at, given};
+
+use codes::{Mode, Phy, Refusal, Symbol};
 
 mod fifteen;
 
 // Matching one symbol's chips by themselves: 1, 11 and 5 in that order, with zeros; then 0, or 6
 // where no word is within the limit, with the nearest word, its distance and the next-nearest
-// other word's.
-pub fn match_part(mode: u32, part: &[u8]) -> codes::Symbol
+// other word's. Each mode's loop is made by itself, of constants. A closure can't be generic over a
+// type, so each entry that takes a mode's number has this `match`: this one, `read` of `reader` and
+// `try_write` of `writer`.
+pub fn match_part(mode: u32, part: &[u8]) -> Symbol
     ensures { result ≡ match_of mode part.now }
 {
-    let size = codes::phy_of(mode).size;
-    if size == 0 {
-        return refusal(codes::BADMODE);
-    }
-    if part.len() != size {
-        return refusal(codes::BADPART);
-    }
-    read_by_mode(mode, part)
+    let symbol = match mode {
+        0 => read_part::<codes::Bpsk>(part),
+        1 => read_part::<codes::Oqpsk>(part),
+        2 => read_part::<codes::LowBand>(part),
+        _ => Err(Refusal::BadMode),
+    };
+    symbol.unwrap_or_else(refusal)
 }
 
-// Each mode's loop is made by itself, of constants. What a mode without a radio would get is 1.
-fn read_by_mode(mode: u32, part: &[u8]) -> codes::Symbol
-    requires { (known mode ≡ true) × (length part.now ≡ (radio_of mode).size) }
-    ensures { result ≡ symbol_of (radio_of mode) part.now }
+// The symbol of a part, its chips gathered and matched as the reader does it, or why there is none.
+// The reader has this loop within its own, which the scope wants around it; both go by one law
+// (`judged_part`). The row is looked up by the number: as a constant of `Mode` it would need one
+// more law for each radio.
+fn read_part<M: Mode>(part: &[u8]) -> Result<Symbol, Refusal>
+    ensures { given result ≡ match_of M.NUMBER part.now }
 {
-    if mode == 0 {
-        return read_part(0, part);
+    if part.len() != codes::phy_of(M::NUMBER).size {
+        return Err(Refusal::BadPart);
     }
-    if mode == 1 {
-        return read_part(1, part);
-    }
-    if mode == 2 {
-        return read_part(2, part);
-    }
-    refusal(codes::BADMODE)
-}
-
-// The symbol of a part that is one symbol long, its chips gathered and matched as the reader does
-// it.
-fn read_part(mode: u32, part: &[u8]) -> codes::Symbol
-    requires { (known mode ≡ true) × (length part.now ≡ (radio_of mode).size) }
-    ensures { result ≡ symbol_of (radio_of mode) part.now }
-{
     let mut bits: u64 = 0;
-    let mut k: usize = 0;
-    while k < codes::EIGHTS {
-        bits = codes::gather(mode, part, k, bits);
-        if bits == codes::NOEIGHT {
-            return refusal(codes::NOCHIP);
-        }
-        k += 1;
+    for k in 0..codes::EIGHTS {
+        bits = codes::gather(M::NUMBER, part, k, bits).ok_or(Refusal::NoChip)?;
     }
-    judge(mode, nearest(mode, bits))
+    Ok(judge(M::NUMBER, nearest(M::NUMBER, bits)))
 }
 
 // The word nearest to the chips that gathered bits hold, the lowest number on a tie, and the
 // next-nearest: 1024 times how far that is, 16 times how far the nearest is, and its number, in one
-// value, which goes from function to function without a store. 0 for a mode that has no radio.
+// value, which goes from function to function without a store; its promise is of that value, and so
+// is `judge`'s. 0 for a mode that has no radio (`nearest_in`), since it can't fail. By the mode's
+// number, as its promise is; each radio has a way of its own.
 pub fn nearest(mode: u32, bits: u64) -> u32
     ensures { result ≡ nearest_in mode bits }
 {
-    if mode == 0 {
-        return fifteen::nearest(bits);
+    match mode {
+        0 => fifteen::nearest(bits),
+        1 => columns::nearest_of_four(bits),
+        2 => columns::nearest_of_two(bits),
+        _ => 0,
     }
-    if mode == 1 {
-        return columns::nearest_of_four(bits);
-    }
-    if mode == 2 {
-        return columns::nearest_of_two(bits);
-    }
-    0
 }
 
-// The symbol that such a value says: 1, then 0 or 6.
-pub fn judge(mode: u32, near: u32) -> codes::Symbol
+// The symbol that such a value says: 1, then 0 or 6, a number in both, since 6 has the same values
+// beside it.
+pub fn judge(mode: u32, near: u32) -> Symbol
     ensures { result ≡ judged_at mode near }
 {
-    let phy = codes::phy_of(mode);
-    if phy.size == 0 {
-        return refusal(codes::BADMODE);
-    }
+    let Ok(phy) = Phy::try_from(mode) else {
+        return refusal(Refusal::BadMode);
+    };
     let distance = near / 16 % 64;
-    let mut number = codes::DONE;
-    if phy.limit < distance {
-        number = codes::LOST;
-    }
-    codes::Symbol {
+    let number = if phy.limit < distance {
+        Refusal::Lost.into()
+    } else {
+        codes::DONE
+    };
+    Symbol {
         number,
         value: near % 16,
         distance,
@@ -102,12 +86,13 @@ pub fn judge(mode: u32, near: u32) -> codes::Symbol
     }
 }
 
-// A refusal's other numbers are 0.
-fn refusal(number: u32) -> codes::Symbol
-    ensures { result ≡ refused number }
+// A refusal's other numbers are 0, each written out, as `refused` (specs/Symbol.antt of `codes`)
+// has them: no other place would use a `Default` of `Symbol`, and no other struct has its fields.
+fn refusal(why: Refusal) -> Symbol
+    ensures { result ≡ refused (number_of why) }
 {
-    codes::Symbol {
-        number,
+    Symbol {
+        number: why.into(),
         value: 0,
         distance: 0,
         next: 0,

@@ -7,8 +7,9 @@
 // What is carried from symbol to symbol: 13 while more is wanted, else 0 or the refusal; symbols
 // taken; n once it is read, 0 before; chips repaired; the last symbol's value; the octet in hand;
 // the smallest gap; the polarity.
-#[derive(Clone, Copy)]
+#[derive(Clone, Copy, Default)]
 pub struct Hand {
+    // a number, no enum: `stopped` and `followed` (specs/Taking.antt) are of any, as C's record is
     pub number: u32,
     pub taken: u32,
     pub length: u32,

@@ -3,6 +3,7 @@ pub mod Fair
 pub mod Sofar
 pub mod Scanning
 pub mod Modes
+pub mod Cut
 pub mod Told
 pub mod Sheet
 pub mod Settled

@@ -5,7 +5,7 @@ use mathlib.Core.Bool.{true}
 use mathlib.Core.List.{List, []}
 use Prim.Native.Nat.{ℕ, suc, ◌+◌, ◌-◌, ◌≤◌, ◌<◌}
 use native.Mathlib.Omega.{arith}
-use lib.ListN.{length, get_or, take, drop, length-take, length-drop}
+use lib.ListN.{length, get_or, take, drop}
 use lib.Dec.{eqb, leb}
 use borrow.Author.Tests.{leb-true, le-ltb}
 use Rattle.codes.specs.Numbers.{DONE, NOCHIP, MORE}
@@ -69,16 +69,10 @@ module _ (mode : ℕ) (m : known mode ≡ true) (room : ℕ) (chips : List ℕ) 
     runs_out l = scan_out (radio_of mode) (sound mode) room chips octets h at L (rw is at l)
 
     module _ (l : size ≤ length chips - at) where
-      whole : at + (radio_of mode).size ≤ length chips
-      whole = let w : at + size ≤ length chips = omega (arith, L.upto) in rw is at w
-
       -- the symbol's chips, as they are lent
       module _ (part : List ℕ) (ep : part ≡ take (at + size - at) (drop at chips)) where
         part_is : part ≡ take (radio_of mode).size (drop at chips)
         part_is = let n : at + size - at ≡ (radio_of mode).size = omega (arith, is) in rw n at ep
-
-        pub part_long : length part ≡ (radio_of mode).size
-        part_long = rw part_is (simp (length-take, length-drop) (omega (arith, whole)))
 
         -- the loop over their eights leaves both loops where a byte is no chip
         pub eights_stop : bad part ≡ true → (g : Hand) → g ≡ stopped NOCHIP h → Tells (radio_of mode) room (reading (radio_of mode) room chips) octets g

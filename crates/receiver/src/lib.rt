@@ -5,13 +5,19 @@
 // reader's loop carry over (proofs/Stepping.antt).
 #![tactic(auto)]
 
-ghost use Rattle.std.specs.Prelude.{◌≡◌, ◌%◌};
-ghost use Rattle.codes.specs.Chips.{pick};
+ghost use Rattle.std.specs.Prelude.{◌≡◌, false, List, ℕ, MatchResult};
+ghost use Rattle.codes.specs.Numbers.{DONE, MORE, number_of};
 ghost use Rattle.frame.specs.Outcome.{outcome};
 ghost use Rattle.reader.specs.Read.{told};
-ghost use Rattle.receiver.specs.Record.{step, fresh, start_of, forged, hand_of, held, took_symbol, push_of, finish_of, takes, take_of};
+ghost use Rattle.receiver.specs.Record.{step, start_of, forged, hand_of, held, took_symbol, push_of, finish_of, takes, take_of};
 
-// What a receiver is between two calls, in the order of the C interface.
+use codes::{Phy, Refusal, Symbol};
+use order::Hand;
+use reader::Reading;
+
+// What a receiver is between two calls, in the order of the C interface. A hand's numbers stand one
+// by one, 0 before they are known, since `fresh`, `held` and `forged` (specs/Record.antt) name the
+// record's own fields. Nothing compares or prints a record or a Step, so they derive no more.
 #[repr(C)]
 #[derive(Clone, Copy)]
 pub struct Receiver {
@@ -37,7 +43,7 @@ pub struct Receiver {
     pub octets: [u8; 127],
 }
 
-// A call's number, and the record that comes back.
+// A call's number, and the record that comes back: C's struct.
 #[repr(C)]
 #[derive(Drop)]
 pub struct Step {
@@ -45,15 +51,35 @@ pub struct Step {
     pub receiver: Receiver,
 }
 
+impl From<Receiver> for Hand {
+    ghost from_gives = { λ receiver hand. hand ≡ hand_of receiver };
+
+    // The numbers that the reader carries too.
+    fn from(receiver: Receiver) -> Hand {
+        Hand {
+            number: receiver.ended,
+            taken: receiver.taken,
+            length: receiver.length,
+            count: receiver.count,
+            last: receiver.last,
+            octet: receiver.octet,
+            gap: receiver.gap,
+            polarity: receiver.polarity,
+        }
+    }
+}
+
 impl Receiver {
-    // A record for a mode, and 13; a mode that has no radio: one already ended with 1, and 1.
+    // A record for a mode, and 13; a mode that has no radio: one already ended with 1, and 1. A
+    // number in both ways, since `stop` takes any (`stopped`).
     pub fn start(mode: u32) -> Step
         ensures { result ≡ start_of mode }
     {
-        if codes::phy_of(mode).size == 0 {
-            return begin(mode, codes::BADMODE);
-        }
-        begin(mode, codes::MORE)
+        let number = match Phy::try_from(mode) {
+            Ok(_) => codes::MORE,
+            Err(refusal) => refusal.into(),
+        };
+        Receiver::held(mode, steps::stop(number, steps::begin()), [0; 127])
     }
 
     // One symbol's chips: 34, 10 and 11 give the record back as it was. Otherwise 13 where more is
@@ -62,100 +88,127 @@ impl Receiver {
     pub fn push(self, part: &[u8]) -> Step
         ensures { result ≡ push_of self part.now }
     {
-        if self.forged() {
-            return self.answer(codes::FORGED);
+        match self.read(part) {
+            Ok(symbol) => self.follow(symbol),
+            Err(refusal) => self.refuse(refusal),
         }
-        if self.ended != codes::MORE {
-            return self.answer(codes::ENDED);
-        }
-        let symbol = matching::match_part(self.mode, part);
-        if symbol.number == codes::BADPART {
-            return self.answer(codes::BADPART);
-        }
-        self.follow(symbol)
     }
 
     // No more symbols: an open record ends with 4. 34 and 10 give the record back as it was.
     pub fn finish(self) -> Step
         ensures { result ≡ finish_of self }
     {
-        if self.forged() {
-            return self.answer(codes::FORGED);
+        if let Err(refusal) = self.ready() {
+            return self.refuse(refusal);
         }
-        if self.ended != codes::MORE {
-            return self.answer(codes::ENDED);
-        }
-        let mut receiver = self;
-        receiver.ended = codes::RUNOUT;
+        let number = Refusal::RunOut.into();
         Step {
-            number: codes::RUNOUT,
-            receiver,
+            number,
+            receiver: Receiver {
+                ended: number,
+                ..self
+            },
         }
     }
 
     // What the record has come to: 34, 12, the refusal that ended it, 3 where the lent buffer is
-    // too short, or 0 and the report. n is 0 on anything but 0, so then nothing is stored.
-    pub fn take(self, report: &mut [u8]) -> reader::Reading
+    // too short, or 0 and the report. n is C's, and 0 on anything but 0, so then nothing is stored;
+    // a second test would say the same.
+    pub fn take(self, report: &mut [u8]) -> Reading
         ensures { outcome result report.new ≡ take_of self report.old }
     {
         let answer = self.tell(report.len());
-        let octets = self.octets;
-        reader::store(octets, answer.n as usize, report);
+        reader::store(self.octets, answer.n as usize, report);
         answer
     }
 
+    // Whether it can go on: not where forged or ended.
+    fn ready(self) -> Result<(), Refusal>
+        ensures { MatchResult result (λ _. (forged self ≡ false) × (self.ended ≡ MORE))
+            (λ e. ((part : List ℕ) → step (number_of e) self ≡ push_of self part) × (step (number_of e) self ≡ finish_of self)) }
+    {
+        if self.forged() {
+            return Err(Refusal::Forged);
+        }
+        if self.ended != codes::MORE {
+            return Err(Refusal::Ended);
+        }
+        Ok(())
+    }
+
     // Whether the calls make no such record: open or ended well, with numbers that no frame has.
-    // The product is of 64 bits, so it doesn't wrap.
+    // The product is of 64 bits, so it doesn't wrap. `ended` is C's number. It is asked again at the
+    // end: one `match` of it, to a flag, makes push 7 to 10 in 100 slower.
     fn forged(self) -> bool
         ensures { result ≡ forged self }
     {
-        if self.ended != codes::MORE && self.ended != codes::DONE {
+        if !matches!(self.ended, codes::MORE | codes::DONE) {
             return false;
         }
-        let phy = codes::phy_of(self.mode);
-        if phy.size == 0 {
+        let Ok(phy) = Phy::try_from(self.mode) else {
             return true;
-        }
+        };
         if 127 < self.length {
             return true;
         }
-        if phy.limit as u64 * (self.taken as u64) < self.count as u64 {
+        if u64::from(phy.limit) * u64::from(self.taken) < u64::from(self.count) {
             return true;
         }
         // six octets stand before the report
         let total = (6 + self.length as usize) * phy.per;
         if self.ended == codes::MORE {
-            return total <= self.taken as usize;
+            total <= self.taken as usize
+        } else {
+            self.taken as usize != total
         }
-        self.taken as usize != total
     }
 
     // The record as it was.
-    fn answer(self, number: u32) -> Step
-        ensures { result ≡ step number self }
+    fn refuse(self, refusal: Refusal) -> Step
+        ensures { result ≡ step (number_of refusal) self }
     {
         Step {
-            number,
+            number: refusal.into(),
             receiver: self,
         }
     }
 
-    // A symbol taken by the reader's steps, on the record's numbers alone. The record itself is
-    // copied once: as it is, with its numbers set; or, where an octet may have become whole, around
-    // a copy of its octets with that one kept.
-    fn follow(self, symbol: codes::Symbol) -> Step
+    // The symbol that a part says, where the record takes it. It is C's `Symbol`: its number tells
+    // whether there is one.
+    fn read(self, part: &[u8]) -> Result<Symbol, Refusal>
+        ensures { MatchResult result (λ symbol. took_symbol self symbol ≡ push_of self part.now)
+            (λ e. step (number_of e) self ≡ push_of self part.now) }
+    {
+        self.ready()?;
+        let symbol = matching::match_part(self.mode, part);
+        if symbol.number == Refusal::BadPart.into() {
+            return Err(Refusal::BadPart);
+        }
+        Ok(symbol)
+    }
+
+    // A symbol taken by the reader's steps, on the record's numbers alone. Its octets are copied
+    // once: as they are, or, where one may have become whole, with that one kept.
+    fn follow(self, symbol: Symbol) -> Step
         ensures { result ≡ took_symbol self symbol }
     {
-        let hand = steps::follow(self.mode, self.hand(), symbol);
+        let hand = steps::follow(self.mode, self.into(), symbol);
         if !steps::whole_octets(self.mode, hand) {
-            return self.with_numbers(hand);
+            return Receiver::held(self.mode, hand, self.octets);
         }
         let mut octets = self.octets;
         steps::keep(self.mode, hand, &mut octets);
+        Receiver::held(self.mode, hand, octets)
+    }
+
+    // The record of a mode with these numbers and octets, and the number it has come to.
+    fn held(mode: u32, hand: Hand, octets: [u8; 127]) -> Step
+        ensures { result ≡ step hand.number (held mode hand octets) }
+    {
         Step {
             number: hand.number,
             receiver: Receiver {
-                mode: self.mode,
+                mode,
                 ended: hand.number,
                 taken: hand.taken,
                 length: hand.length,
@@ -169,92 +222,39 @@ impl Receiver {
         }
     }
 
-    // The record with these numbers, its octets as they were.
-    fn with_numbers(self, hand: order::Hand) -> Step
-        ensures { result ≡ step hand.number (held self.mode hand self.octets) }
-    {
-        let mut receiver = self;
-        receiver.ended = hand.number;
-        receiver.taken = hand.taken;
-        receiver.length = hand.length;
-        receiver.count = hand.count;
-        receiver.last = hand.last;
-        receiver.octet = hand.octet;
-        receiver.gap = hand.gap;
-        receiver.polarity = hand.polarity;
-        Step {
-            number: hand.number,
-            receiver,
-        }
-    }
-
-    // The numbers that the reader carries too.
-    fn hand(self) -> order::Hand
-        ensures { result ≡ hand_of self }
-    {
-        order::Hand {
-            number: self.ended,
-            taken: self.taken,
-            length: self.length,
-            count: self.count,
-            last: self.last,
-            octet: self.octet,
-            gap: self.gap,
-            polarity: self.polarity,
-        }
-    }
-
-    // What take gives back with so much room.
-    fn tell(self, room: usize) -> reader::Reading
+    // What take gives back with so much room; the room alone, since the report is stored at the
+    // end.
+    fn tell(self, room: usize) -> Reading
         ensures { result ≡ told (takes self room) }
     {
         if self.forged() {
-            return reader::refusal(codes::FORGED, 0);
+            return reader::refusal(Refusal::Forged.into(), 0);
         }
-        if self.ended == codes::MORE {
-            return reader::refusal(codes::NOTENDED, 0);
+        match self.ended {
+            codes::MORE => reader::refusal(Refusal::NotEnded.into(), 0),
+            codes::DONE => self.report(room),
+            refusal => reader::refusal(refusal, self.taken),
         }
-        if self.ended != codes::DONE {
-            return reader::refusal(self.ended, self.taken);
-        }
+    }
+
+    // The same of a record that ended well. It may hold any polarity, as a reading's hand does not:
+    // hence the polarity reduced, and told in a radio that has two; a test, since `chained` has two
+    // values.
+    fn report(self, room: usize) -> Reading
+        requires { (forged self ≡ false) × (self.ended ≡ DONE) }
+        ensures { result ≡ told (takes self room) }
+    {
         if room < self.length as usize {
-            return reader::refusal(codes::NOROOM, self.taken);
+            return reader::refusal(Refusal::NoRoom.into(), self.taken);
         }
-        reader::Reading {
+        let phy = codes::phy_of(self.mode);
+        Reading {
             number: codes::DONE,
             place: self.taken,
             n: self.length,
             count: self.count,
             gap: self.gap,
-            polarity: told_polarity(codes::phy_of(self.mode).chained, self.polarity),
+            polarity: if phy.chained { self.polarity % 2 } else { 0 },
         }
-    }
-}
-
-// The polarity that is told of one held: 0 or 1 in a radio that has two, else 0.
-fn told_polarity(chained: bool, held: u32) -> u32
-    ensures { result ≡ pick chained (held % 2) 0 }
-{
-    if chained { held % 2 } else { 0 }
-}
-
-// All 0 but the mode, the number and the smallest gap, for which stands a number above every gap.
-fn begin(mode: u32, number: u32) -> Step
-    ensures { result ≡ step number (fresh mode number) }
-{
-    Step {
-        number,
-        receiver: Receiver {
-            mode,
-            ended: number,
-            taken: 0,
-            length: 0,
-            count: 0,
-            last: 0,
-            octet: 0,
-            gap: codes::NOGAP,
-            polarity: 0,
-            octets: [0u8; 127],
-        },
     }
 }

@@ -1,5 +1,4 @@
--- Laws of the arguments, and of the chips counted.
+-- Laws of the arguments.
 mod Digits
 mod Option
-mod Fits
 mod Sheet

@@ -1,9 +1,17 @@
--- What a mode's row says of its octets, where the row has chips. Assumes nothing.
-use Rattle.std.proofs.Common.{◌≡◌, ℕ, ◌<◌, arith}
-use Rattle.codes.specs.declared.Phy.{Phy}
-use Rattle.codes.specs.Phy.{phy_at}
-use Rattle.frame.proofs.Modes.{some_symbols, row_sized}
+-- What a radio's row says of its octets and its symbols' values. Assumes nothing.
+use Rattle.std.proofs.Common.{ℕ}
+use lib.Pow.{pow_pos}
+use Rattle.codes.specs.Radio.{radio_of}
+use Rattle.codes.specs.Phy.{phy_of}
+use Rattle.frame.proofs.Modes.{few_symbols, some_symbols}
+use Rattle.frame.proofs.Modes as frame
+use Rattle.steps.specs.Bounded.{Bounded}
 
--- an octet has symbols
-pub some : (mode : ℕ) (p : Phy) → p ≡ phy_at mode → (p.size ≡ 0 → ⊥) → 0 < p.per
-some mode p e n = omega (arith, (row_sized mode p e n).1, some_symbols mode)
+pub bounded : (mode : ℕ) → Bounded (phy_of (radio_of mode))
+bounded mode =
+    record {
+      some = some_symbols mode;
+      few = few_symbols mode;
+      some_values = pow_pos (radio_of mode).bits;
+      few_values = frame.few_values mode;
+    }

@@ -2,13 +2,14 @@
 -- it. Assumes nothing.
 use mathlib.Core.Path.{◌≡◌, refl, ap, sym, ◌∙◌}
 use mathlib.Core.Bool.{Bool, true, false}
-use mathlib.Core.List.{List, [], ◌∷◌}
+use mathlib.Core.List.{List}
 use Prim.Native.Nat.{ℕ, ◌+◌, ◌*◌, ◌/◌, ◌%◌, ◌^◌, ◌≤◌, ◌<◌}
 use native.Mathlib.Omega.{arith}
 use lib.ListN.{length, get_or, take, drop, set, replicate, length-set, get_or-replicate}
 use lib.Seq.{ext_get_or, get_or-set_same, get_or-set_other}
 use lib.Bits.{bit_xor}
 use lib.Dec.{eqb, leb, ltb}
+use lib.Pointwise.{pointwise, bytes_decides}
 use borrow.Author.Tests.{eqb-true, eqb-false, leb-true, ltb-true, ltb-false, lt-ltb, le-ltb}
 use Rattle.codes.specs.declared.Phy.{Phy}
 use Rattle.codes.specs.Chips.{pick, bad}
@@ -18,7 +19,7 @@ use Rattle.codes.specs.Packed.{packed}
 use Rattle.codes.specs.Gathered.{gathered, gathered_all, listed}
 use Rattle.codes.specs.Phy.{phy_of, no_phy, phy_at}
 use Rattle.strips.specs.Strip.{chip_of, flip_of, strip_chip, strip_at, row_by, row_at, Fits}
-use Rattle.codes.proofs.Tests.{by_test, not_both, both_true, every, each}
+use Rattle.codes.proofs.Tests.{by_test, both_true, every, each}
 use Rattle.codes.proofs.Chips.{window_chip}
 use Rattle.codes.proofs.Modes.{each_row, every_row, row_test, phy_known}
 use Rattle.codes.proofs.Gathering.{listed_long, listed_at}
@@ -28,43 +29,27 @@ pub strip_long : (mode : ℕ) → length (strip_at mode) ≡ 128
 unfolding strip_at
 strip_long mode = listed_long (strip_chip (phy_at mode)) 128
 
--- whether two lists are the same, which antt computes, and what it says
-unfoldable same : List ℕ → List ℕ → Bool
-same [] [] = true
-same [] (y ∷ ys) = false
-same (x ∷ xs) [] = false
-same (x ∷ xs) (y ∷ ys) = pick (eqb x y) (same xs ys) false
-
-same_true : (xs ys : List ℕ) → same xs ys ≡ true → xs ≡ ys
-unfolding same
-same_true [] [] t = refl
-same_true [] (y ∷ ys) t = not_both false t refl
-same_true (x ∷ xs) [] t = not_both false t refl
-same_true (x ∷ xs) (y ∷ ys) t = by_test (eqb x y)
-    (λ e. ap (λ (z : ℕ). z ∷ xs) (eqb-true x y e) ∙ ap (λ (zs : List ℕ). y ∷ zs) (same_true xs ys (rw e at t)))
-    (λ e. not_both false (rw e at t) refl)
-
 -- the word of v is the run of a strip at its row, and lies in it: one test of each word
 run_test : Radio → Phy → List ℕ → ℕ → Bool
-run_test r p strip v = pick (leb (row_by p v + r.size) 128) (same (take r.size (drop (row_by p v) strip)) (word r v)) false
+run_test r p strip v = pick (leb (row_by p v + r.size) 128) (pointwise eqb (take r.size (drop (row_by p v) strip)) (word r v)) false
 
 Runs : Radio → Phy → Type 0
 Runs r p = every (run_test r p (listed (strip_chip p) 128)) (length r.words) ≡ true
 
 runs : (mode : ℕ) → Runs (radio_of mode) (phy_of (radio_of mode))
 unfolding
-    Runs run_test same every listed chip_of gathered gathered_all packed bad
+    Runs run_test every listed chip_of gathered gathered_all packed bad
     bpsk_words oqpsk_word oqpsk_words lowband_word lowband_words turned_words turns turned odd_inverted
 runs = each_row (λ r. Runs r (phy_of r)) refl refl refl
 
 module _ (mode : ℕ) (m : known mode ≡ true) (v : ℕ) (h : v < length (radio_of mode).words) where
   run_at : (leb (row_at mode v + (radio_of mode).size) 128 ≡ true)
-      × (same (take (radio_of mode).size (drop (row_at mode v) (strip_at mode))) (word (radio_of mode) v) ≡ true)
+      × (pointwise eqb (take (radio_of mode).size (drop (row_at mode v) (strip_at mode))) (word (radio_of mode) v) ≡ true)
   unfolding Runs run_test row_at strip_at
   run_at = rw (phy_known mode m) (both_true _ _ (each _ (length (radio_of mode).words) (runs mode) v h))
 
   pub strip_row : take (radio_of mode).size (drop (row_at mode v) (strip_at mode)) ≡ word (radio_of mode) v
-  strip_row = same_true _ _ run_at.1
+  strip_row = (bytes_decides _ _).0 run_at.1
 
   pub strip_fits : row_at mode v + (radio_of mode).size ≤ 128
   strip_fits = leb-true _ _ run_at.0

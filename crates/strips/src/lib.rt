@@ -1,38 +1,39 @@
 // The words of a mode's radio as runs of one strip of 128 chips, for whoever writes many
 // symbols: a strip is made once and lent, and each word is copied out of it. No word stands here
 // chip by chip: a strip is worked out from word 0 by the rule of the words (`codes`,
-// specs/Radio.antt), and shown to hold each of them (proofs/Runs.antt). The loops have constant
-// lengths where the mode is constant, and each chip is a function of its index, so the back end
-// then computes all of them and only stores.
+// specs/Radio.antt), and shown to hold each of them (proofs/Runs.antt). The loop has a constant
+// length where the mode is constant, and each chip is a function of its index, so the back end then
+// computes all of them and only stores.
 #![tactic(auto)]
 
 ghost use Rattle.std.specs.Prelude.{◌≡◌};
 ghost use Rattle.strips.specs.Strip.{Fits, strip_at, row_at, chip_of, flip_of};
 
-// Word 0 twice, and both with chips inverted; zeros for a mode that has no radio. Two loops: of one
-// over the whole strip the back end makes code that works it out at run time.
+// Word 0 twice, and both with chips inverted; zeros for a mode that has no radio (`strip_at`),
+// since it can't fail.
 pub fn strip(mode: u32) -> [u8; 128]
     ensures { result ≡ strip_at mode }
 {
     let phy = codes::phy_of(mode);
     let half = 16 * phy.eights;
     let mut strip = [0u8; 128];
-    let mut i: usize = 0;
-    while i < half {
-        strip[i] = chip(phy, i);
-        i += 1;
-    }
-    while i < 2 * half {
-        strip[i] = chip(phy, i) ^ flip(phy.values, i);
-        i += 1;
+    for i in 0..2 * half {
+        let word_chip = chip(phy, i);
+        let x = if i < half {
+            word_chip
+        } else {
+            word_chip ^ flip(phy.values, i)
+        };
+        strip[i] = x;
     }
     strip
 }
 
-// Where the word of a value begins in it; 0 where there is no such word. A word turned right by so
-// many chips is read from the doubled word, as many chips before its second half. A bit's words
-// stand 32 apart, since 32 times a bit is a shift: of 15 times a bit the back end makes a choice of
-// two, and of that a jump, which a report's bits leave hard to foresee.
+// Where the word of a value begins in it; 0 where there is no such word (`row_at`), since it can't
+// fail. A word turned right by so many chips is read from the doubled word, as many chips before
+// its second half. A bit's words stand 32 apart, since 32 times a bit is a shift: of 15 times a bit
+// the back end makes a choice of two, and of that a jump, which a report's bits leave hard to
+// foresee.
 pub fn row_of(mode: u32, v: usize) -> usize
     ensures { result ≡ row_at mode v }
 {
@@ -57,6 +58,7 @@ fn chip(phy: codes::Phy, i: usize) -> u8
 }
 
 // Whether chip i is inverted in the second half: of two words every chip, of sixteen the odd ones.
+// The casts here lose nothing: they are of bits.
 fn flip(values: usize, i: usize) -> u8
     ensures { result ≡ flip_of values i }
 {

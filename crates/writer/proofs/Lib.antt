@@ -1,3 +1,2 @@
--- Laws of the writer: where the words stand in a strip, and what its promise settles.
-pub mod Words
+-- What the writer's promises settle.
 pub mod Settled

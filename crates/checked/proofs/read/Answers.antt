@@ -1,5 +1,5 @@
 -- `read` meets its contract: a law for each of its three ways (Reader.antt). Assumes nothing.
-use Rattle.std.proofs.Common.{sym, length-take-le}
+use Rattle.std.proofs.Common.{refl, sym, length-take-le}
 use Rattle.checked.proofs.Reader.{n_fits, as_plain, not_passed, passed}
 use Rattle.checked.proofs.read.Goals as goal
 
@@ -7,33 +7,31 @@ pub returns-then-answer-ne-DONE : goal.returns-then-answer-ne-DONE
 returns-then-answer-ne-DONE c =
     let a = c.args in
     let d = c.read-answer in
-    as_plain a.mode a.chips.now a.report.now _ c.aside-octets.ensures _ c.room_for-room.ensures
+    as_plain _ _ _ _ refl _ c.min-room.ensures
     _ _ d.ensures d.auto.report c.if-answer-ne-DONE.true
 
 pub slice_bounds-octets-end-2 : goal.slice_bounds-octets-end-2
 slice_bounds-octets-end-2 c =
     let a = c.args in
     let d = c.read-answer in
-    n_fits a.mode a.chips.now a.report.now _ c.aside-octets.ensures _ c.room_for-room.ensures _ _ d.ensures d.auto.report
+    n_fits _ _ _ _ refl _ c.min-room.ensures _ _ d.ensures d.auto.report
 
-pub slice_bounds-check-end : goal.slice_bounds-check-end
-slice_bounds-check-end c =
+pub slice_bounds-tested-end : goal.slice_bounds-tested-end
+slice_bounds-tested-end c =
     let a = c.args in
     let d = c.read-answer in
-    sym
-    (length-take-le _ _
-    (n_fits a.mode a.chips.now a.report.now _ c.aside-octets.ensures _ c.room_for-room.ensures _ _ d.ensures d.auto.report))
+    sym (length-take-le _ _ (n_fits _ _ _ _ refl _ c.min-room.ensures _ _ d.ensures d.auto.report))
 
-pub returns-then-number-ne-DONE : goal.returns-then-number-ne-DONE
-returns-then-number-ne-DONE c =
+pub returns-in-Err : goal.returns-in-Err
+returns-in-Err c =
     let a = c.args in
     let d = c.read-answer in
-    not_passed a.mode a.chips.now a.report.now _ c.aside-octets.ensures _ c.room_for-room.ensures _ _ d.ensures d.auto.report
-    c.if-answer-ne-DONE.false _ c.check-number.ensures c.if-number-ne-DONE.true _ c.refusal.ensures
+    not_passed _ _ _ _ refl _ c.min-room.ensures _ _ d.ensures d.auto.report
+    c.if-answer-ne-DONE.false (λ z. let f = c.in-Err.ensures.passes.1 z in cc) _ (rw (c.in-Err.ensures.refused, ← c.into.ensures) c.refusal.ensures)
 
 pub returns : goal.returns
 returns c =
     let a = c.args in
     let d = c.read-answer in
-    passed a.mode a.chips.now a.report.now _ c.aside-octets.ensures _ c.room_for-room.ensures _ _ d.ensures d.auto.report
-    c.if-answer-ne-DONE.false _ c.check-number.ensures c.if-number-ne-DONE.false _ c.store.ensures
+    passed _ _ _ _ refl _ c.min-room.ensures _ _ d.ensures d.auto.report
+    c.if-answer-ne-DONE.false (c.in_default.ensures.passes.0 refl) _ c.store.ensures

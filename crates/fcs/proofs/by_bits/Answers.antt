@@ -1,6 +1,5 @@
--- `by_bits` meets its contract: the bits still to come are those that the octet's rest begins with.
--- Assumes nothing.
-use Rattle.std.proofs.Common.{◌≡◌, ◌-◌, sym, ◌∙◌, arith}
+-- `by_bits` meets its contract: a bit enters at each turn (Register.antt). Assumes nothing.
+use Rattle.std.proofs.Common.{◌∙◌, ◌≡◌, ◌-◌, sym, arith}
 use Rattle.frame.specs.Frame.{digits}
 use Rattle.fcs.specs.Fcs.{register_after}
 use Rattle.fcs.proofs.Register.{bit_enters}
@@ -9,11 +8,12 @@ use Rattle.fcs.proofs.by_bits.Goals as goal
 pub loop-k-preserved : goal.loop-k-preserved
 loop-k-preserved c =
     let l = c.loop-k in
-    (omega arith, l.invariant.1 ∙ rw c.enter-after.ensures (bit_enters l.k l.after l.rest (omega arith)))
+    let e = l.invariant ∙ bit_enters l.k l.register c.args.octet c.loop-k-test.true in
+    cc
 
 pub returns : goal.returns
 unfolding digits register_after
 returns c =
     let l = c.loop-k in
     let e : 8 - l.k ≡ 0 = omega arith in
-    sym (l.invariant.1 ∙ rw e)
+    sym (l.invariant ∙ rw e)

@@ -1,8 +1,8 @@
--- `nearest` meets its contract: a radio a branch. Assumes nothing.
+-- `nearest` meets its contract: a radio an arm. Assumes nothing.
+use Rattle.std.proofs.Common.{rules}
 use Rattle.codes.specs.Near.{nearest_in}
-use Rattle.codes.proofs.Modes.{unknown}
 use Rattle.matching.proofs.nearest.Goals as goal
 
-pub returns : goal.returns
+pub returns-in_default : goal.returns-in_default
 unfolding nearest_in
-returns c = rw (unknown _ c.if-mode-eq0.false c.if-mode-eq1.false c.if-mode-eq2.false)
+returns-in_default c = search rules

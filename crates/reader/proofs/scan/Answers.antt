@@ -1,94 +1,85 @@
--- `scan` meets its contract: what is still to be read stays the reading's answer (Scanning.antt),
--- and the bits are those of the eights so far (Gathering.antt of `codes`). Assumes nothing.
-use Rattle.std.proofs.Common.{◌-◌, ◌≤◌, length, refl, ap, ◌∙◌, arith}
-use Rattle.codes.specs.Numbers.{NOCHIP}
-use Rattle.codes.proofs.Gathering.{loop_starts, loop_goes_on, loop_stops, loop_ends}
+-- `scan` meets its contract: what is still to be read stays the reading's answer (Cut.antt), and
+-- the bits are those of the eights so far (Gathering.antt of `codes`). Assumes nothing.
+use Rattle.std.proofs.Common.{◌≡◌, refl, ◌∙◌, arith, rules}
+use Rattle.codes.specs.Numbers.{DONE, MORE}
+use Rattle.codes.proofs.Tests.{not_both}
+use Rattle.codes.proofs.Gathering.{loop_starts, loop_goes_on, loop_stops}
 use Rattle.frame.proofs.Modes.{row_size}
-use Rattle.order.specs.Taking.{stopped, followed}
+use Rattle.order.specs.Taking.{followed}
 use Rattle.order.proofs.Steps.{followed_roomy}
-use Rattle.reader.proofs.Modes.{size_positive, starts, runs_out, part_long, eights_stop, turns, refusal_ends}
+use Rattle.reader.proofs.Modes.{size_positive}
+use Rattle.reader.proofs.Cut.{cutting_same, cut_fits, cutting_starts, cut_long, cut_taken, cut_out, cut_stops, cut_refused, cut_on, cut_ends}
 use Rattle.reader.proofs.scan.Goals as goal
+use Rattle.reader.proofs.scan.Goals.{in-13, in_default-matches}
+
+pub chunks_exact-part-items-requires : goal.chunks_exact-part-items-requires
+chunks_exact-part-items-requires g c =
+    size_positive g.M.Mode.NUMBER _ (row_size g.M.Mode.NUMBER g.M.Mode.is_known _ (rw c.NUMBER.ensures at c.phy_of-size.ensures))
 
 pub symbols-init : goal.symbols-init
-symbols-init c =
-    let a = c.args in
-    starts a.mode c.requires.0 a.room a.chips.now a.octets.now c.begin-hand.result c.begin-hand.ensures c.requires.1
+symbols-init g c =
+    let e = c.into_iter-part-iterator.ensures.into_iter_gives in
+    let made = c.chunks_exact-part-items.ensures in
+    cutting_starts g.M.Mode.is_known c.begin-hand.ensures c.told-octets (rw e made.rest)
+    (rw e (made.size ∙ row_size g.M.Mode.NUMBER g.M.Mode.is_known _ (rw c.NUMBER.ensures at c.phy_of-size.ensures)))
+
+pub symbols-init-derived : goal.symbols-init-derived
+symbols-init-derived g c =
+    let e = c.into_iter-part-iterator.ensures.into_iter_gives in
+    (rw (e, c.chunks_exact-part-items.ensures.size) (size_positive g.M.Mode.NUMBER _ (row_size g.M.Mode.NUMBER g.M.Mode.is_known _ (rw c.NUMBER.ensures at c.phy_of-size.ensures))), tt)
 
 pub chips-init : goal.chips-init
-chips-init c = (refl, loop_starts c.args.mode c.requires.0 _)
+chips-init g c = (refl, loop_starts g.M.Mode.NUMBER g.M.Mode.is_known _)
 
 pub chips-preserved : goal.chips-preserved
-chips-preserved c =
-    let a = c.args in
-    let q = c.symbols in
-    let fits : c.phy_of-size.result.size ≤ length a.chips.now - q.at = omega arith in
-    let size = row_size a.mode c.requires.0 _ c.phy_of-size.ensures in
-    let long = part_long a.mode c.requires.0 a.room a.chips.now q.octets q.hand q.at _ size q.invariant fits _ refl in (
+chips-preserved g c =
+    let long = cut_long g.M.Mode.is_known c.symbols.invariant _ _ c.in-Some.ensures.steps.1 in (
       c.chips.invariant.0,
-      loop_goes_on a.mode c.requires.0 _ long _ c.chips-test.true _ c.chips.invariant.1 _ c.gather_eight-bits.ensures c.if-bits.false,
+      loop_goes_on g.M.Mode.NUMBER g.M.Mode.is_known _ long _ c.chips-test.true _ c.chips.invariant.1 _ (search rules),
     )
 
 pub settle-hand-requires : goal.settle-hand-requires
-settle-hand-requires c =
-    let a = c.args in (
-      c.requires.0,
-      rw c.take_symbol-next.ensures
-          (followed_roomy a.mode a.room c.chips.hand (rw c.chips.invariant.0 c.symbols.invariant.sofar.goes.fits) _),
-    )
-
-pub symbols-smaller : goal.symbols-smaller
-symbols-smaller c =
-    let size = row_size c.args.mode c.requires.0 _ c.phy_of-size.ensures in
-    omega (arith, c.symbols.invariant.upto, c.symbols-test.true, size_positive c.args.mode _ size)
+settle-hand-requires g c =
+    let C = cutting_same c.chips.invariant.0 c.symbols.invariant in
+    let f : c.follow-next.result ≡ followed g.M.Mode.NUMBER c.chips.hand c.judge-symbol.result = search rules in
+    rw f (followed_roomy g.M.Mode.NUMBER c.args.room c.chips.hand (cut_fits C) _)
 
 pub symbols-preserved : goal.symbols-preserved
-symbols-preserved c =
-    let a = c.args in
-    let q = c.symbols in
-    let fits : c.phy_of-size.result.size ≤ length a.chips.now - q.at = omega arith in
-    let size = row_size a.mode c.requires.0 _ c.phy_of-size.ensures in
-    let long = part_long a.mode c.requires.0 a.room a.chips.now q.octets q.hand q.at _ size q.invariant fits _ refl in
-    let took = c.take_symbol-next.ensures
-    ∙ ap (followed a.mode c.chips.hand) (loop_ends a.mode c.requires.0 _ long _ _ c.chips-test.false c.chips.invariant.1) in
-    (turns a.mode c.requires.0 a.room a.chips.now q.octets c.chips.hand q.at _ size (rw c.chips.invariant.0 q.invariant)
-    fits _ refl _ took _ c.settle-hand.ensures.value _ c.settle-hand.ensures.octets_after).0 c.if-hand-ne-MORE.false
+symbols-preserved g c =
+    let C = cutting_same c.chips.invariant.0 c.symbols.invariant in
+    let cut = c.in-Some.ensures.steps in
+    let f = cut_taken g.M.Mode.is_known C _ _ cut.1 c.chips-test.false c.chips.invariant.1
+    c.nearest.result (search rules) c.judge-symbol.result (search rules) c.follow-next.result (search rules) in
+    cut_on g.M.Mode.is_known C _ _ cut.1 f c.settle-hand.ensures.value c.settle-hand.ensures.octets_after c.if-hand-ne-MORE.false cut.0
 
-pub returns-after-symbols : goal.returns-after-symbols
-returns-after-symbols c =
-    let a = c.args in
-    runs_out a.mode c.requires.0 a.room a.chips.now _ _ _ _ (row_size a.mode c.requires.0 _ c.phy_of-size.ensures) c.symbols.invariant c.symbols-test.false
+pub returns-in-None : goal.returns-in-None
+returns-in-None g c = cut_out g.M.Mode.is_known c.symbols.invariant c.in-None.ensures.steps.1.0
 
-pub returns-then-bits : goal.returns-then-bits
-returns-then-bits c =
-    let a = c.args in
-    let q = c.symbols in
-    let fits : c.phy_of-size.result.size ≤ length a.chips.now - q.at = omega arith in
-    let size = row_size a.mode c.requires.0 _ c.phy_of-size.ensures in
-    let long = part_long a.mode c.requires.0 a.room a.chips.now q.octets q.hand q.at _ size q.invariant fits _ refl in
-    eights_stop a.mode c.requires.0 a.room a.chips.now q.octets q.hand q.at _ size q.invariant fits _ refl
-    (loop_stops a.mode c.requires.0 _ long _ c.chips-test.true _ c.chips.invariant.1 _ c.gather_eight-bits.ensures c.if-bits.true)
-    _ (c.stop-hand.ensures ∙ ap (stopped NOCHIP) c.chips.invariant.0)
+pub returns-in_default : goal.returns-in_default
+returns-in_default g c =
+    let cut = c.in-Some.ensures.steps.1 in
+    let long = cut_long g.M.Mode.is_known c.symbols.invariant _ _ cut in
+    cut_stops g.M.Mode.is_known c.symbols.invariant _ _ cut
+    (loop_stops g.M.Mode.NUMBER g.M.Mode.is_known _ long _ c.chips-test.true _ c.chips.invariant.1 (search rules))
+    (rw (c.chips.invariant.0, c.into.ensures) at c.stop-hand.ensures)
 
-pub returns-then-next-ne-DONE : goal.returns-then-next-ne-DONE
-returns-then-next-ne-DONE c =
-    let a = c.args in
-    let q = c.symbols in
-    let fits : c.phy_of-size.result.size ≤ length a.chips.now - q.at = omega arith in
-    let size = row_size a.mode c.requires.0 _ c.phy_of-size.ensures in
-    let long = part_long a.mode c.requires.0 a.room a.chips.now q.octets q.hand q.at _ size q.invariant fits _ refl in
-    let took = c.take_symbol-next.ensures
-    ∙ ap (followed a.mode c.chips.hand) (loop_ends a.mode c.requires.0 _ long _ _ c.chips-test.false c.chips.invariant.1) in
-    refusal_ends a.mode c.requires.0 a.room a.chips.now q.octets c.chips.hand q.at _ size (rw c.chips.invariant.0 q.invariant)
-    fits _ refl _ took c.if-next-ne-MORE.true c.if-next-ne-DONE.true _ c.stop-hand-then-next-ne-DONE.ensures
+pub returns-then-not-matches : goal.returns-then-not-matches
+returns-then-not-matches g c =
+    let n : (c.follow-next.result.number ≡ MORE → ⊥) × (c.follow-next.result.number ≡ DONE → ⊥) =
+    elim c.match-matches.branch [
+      | in-13 w ↦ absurd (not_both _ w.matches-is c.if-not-matches.true)
+      | in_default-matches w ↦ (λ e. grind (arith, e, w.in_default-matches), λ e. grind (arith, e, w.in_default-matches))
+    ] in
+    let C = cutting_same c.chips.invariant.0 c.symbols.invariant in
+    let cut = c.in-Some.ensures.steps.1 in
+    let f = cut_taken g.M.Mode.is_known C _ _ cut c.chips-test.false c.chips.invariant.1
+    c.nearest.result (search rules) c.judge-symbol.result (search rules) c.follow-next.result (search rules) in
+    cut_refused g.M.Mode.is_known C _ _ cut f n.0 n.1 c.stop-hand-then-not-matches.ensures
 
 pub returns-then-hand-ne-MORE : goal.returns-then-hand-ne-MORE
-returns-then-hand-ne-MORE c =
-    let a = c.args in
-    let q = c.symbols in
-    let fits : c.phy_of-size.result.size ≤ length a.chips.now - q.at = omega arith in
-    let size = row_size a.mode c.requires.0 _ c.phy_of-size.ensures in
-    let long = part_long a.mode c.requires.0 a.room a.chips.now q.octets q.hand q.at _ size q.invariant fits _ refl in
-    let took = c.take_symbol-next.ensures
-    ∙ ap (followed a.mode c.chips.hand) (loop_ends a.mode c.requires.0 _ long _ _ c.chips-test.false c.chips.invariant.1) in
-    (turns a.mode c.requires.0 a.room a.chips.now q.octets c.chips.hand q.at _ size (rw c.chips.invariant.0 q.invariant)
-    fits _ refl _ took _ c.settle-hand.ensures.value _ c.settle-hand.ensures.octets_after).1 c.if-hand-ne-MORE.true
+returns-then-hand-ne-MORE g c =
+    let C = cutting_same c.chips.invariant.0 c.symbols.invariant in
+    let cut = c.in-Some.ensures.steps.1 in
+    let f = cut_taken g.M.Mode.is_known C _ _ cut c.chips-test.false c.chips.invariant.1
+    c.nearest.result (search rules) c.judge-symbol.result (search rules) c.follow-next.result (search rules) in
+    cut_ends g.M.Mode.is_known C _ _ cut f c.settle-hand.ensures.value c.settle-hand.ensures.octets_after c.if-hand-ne-MORE.true

@@ -1,12 +1,7 @@
--- `is_option` meets its contract (Option.antt). Assumes nothing.
-use Rattle.send.proofs.Option.{not_two, no_hyphen, hyphen}
+-- `is_option` meets its contract: the test is the option's definition. Assumes nothing.
+use Rattle.std.proofs.Common.{◌∙◌}
+use Rattle.send.proofs.Option.{equal_option}
 use Rattle.send.proofs.is_option.Goals as goal
 
-pub returns-then-text-ne2 : goal.returns-then-text-ne2
-returns-then-text-ne2 c = not_two c.args.text.now c.if-text-ne2.true
-
-pub returns-then-text-eq45 : goal.returns-then-text-eq45
-returns-then-text-eq45 c = hyphen c.args.text.now c.if-text-ne2.false c.if-text-eq45.true
-
-pub returns-else-text-eq45 : goal.returns-else-text-eq45
-returns-else-text-eq45 c = no_hyphen c.args.text.now c.if-text-ne2.false c.if-text-eq45.false
+pub returns : goal.returns
+returns c = c.eq.ensures ∙ rw c.as_slice.ensures (equal_option c.args.text.now)

@@ -1,11 +1,13 @@
--- `octet_chips` meets its contract: the product of two numbers of the mode's row.
+-- `octet_chips` meets its contract: the product of two numbers of the radio's row.
 -- Assumes nothing.
 use Rattle.std.proofs.Common.{arith}
 use Rattle.frame.proofs.Modes.{few_octet, row_octet}
 use Rattle.writer.proofs.octet_chips.Goals as goal
 
 pub overflow_mul-result : goal.overflow_mul-result
-overflow_mul-result c = omega (arith, row_octet c.args.mode c.requires _ c.phy_of-phy.ensures, few_octet c.args.mode)
+overflow_mul-result g c =
+    let o = row_octet g.M.Mode.NUMBER g.M.Mode.is_known _ (rw c.NUMBER.ensures at c.phy_of-phy.ensures) in
+    omega (arith, o, few_octet g.M.Mode.NUMBER)
 
 pub returns : goal.returns
-returns c = row_octet c.args.mode c.requires _ c.phy_of-phy.ensures
+returns g c = row_octet g.M.Mode.NUMBER g.M.Mode.is_known _ (rw c.NUMBER.ensures at c.phy_of-phy.ensures)

@@ -1,55 +1,51 @@
 -- `forged` meets its contract: a law for each of its ways (Ways.antt). Its total fits, since a
 -- length here is at most 127 and an octet has at most 8 symbols. Assumes nothing.
-use Rattle.std.proofs.Common.{◌≡◌, ◌+◌, ◌⊎◌, inl, inr, ⊎_elim, arith}
-use native.Mathlib.Nat.{mul-le-mul_right}
+use Rattle.std.proofs.Common.{◌≡◌, ◌⊎◌, inl, ap, arith}
 use Rattle.codes.specs.Numbers.{DONE, MORE}
-use Rattle.codes.proofs.Modes.{phy_sizeless}
-use Rattle.frame.proofs.Modes.{row_sized, row_limit, per_few}
-use Rattle.receiver.specs.declared.Receiver.{Receiver}
+use Rattle.codes.specs.declared.Phy.{Phy}
 use Rattle.receiver.proofs.Ways.{forged_refused, forged_no_radio, forged_long, forged_count, last_test, forged_open, forged_ended}
 use Rattle.receiver.proofs.Receiver.forged.Goals as goal
 
+pub returns-then-not-matches : goal.returns-then-not-matches
+returns-then-not-matches c =
+    forged_refused c.args.self (λ e. grind (arith, e, c.match-matches, c.if-not-matches.true)) (λ e. grind (arith, e, c.match-matches, c.if-not-matches.true))
+
 -- past the test of the number, the record is open or ended well
-going : (s : Receiver) → ((s.ended ≡ MORE → ⊥) × (s.ended ≡ DONE)) ⊎ (s.ended ≡ MORE) → (s.ended ≡ MORE) ⊎ (s.ended ≡ DONE)
-going s = ⊎_elim (λ w. inr w.1) (λ w. inl w)
-
-pub returns-then-self-ne-DONE : goal.returns-then-self-ne-DONE
-returns-then-self-ne-DONE c = forged_refused c.args.self c.if-self-ne-MORE.true c.if-self-ne-DONE.true
-
-pub returns-then-phy-eq0 : goal.returns-then-phy-eq0
-returns-then-phy-eq0 c =
+pub returns-in_default-try_from : goal.returns-in_default-try_from
+returns-in_default-try_from c =
     let s = c.args.self in
-    forged_no_radio s (going s c.else-self-ne-MORE.either) (phy_sizeless s.mode _ c.phy_of-phy.ensures c.if-phy-eq0.true)
+    let going : (s.ended ≡ MORE) ⊎ (s.ended ≡ DONE) = grind (arith, c.match-matches, c.if-not-matches.false) in
+    forged_no_radio s going c.in_default-try_from.ensures.0
 
 pub returns-then-self-gt127 : goal.returns-then-self-gt127
 returns-then-self-gt127 c =
     let s = c.args.self in
-    let k = row_sized s.mode _ c.phy_of-phy.ensures c.if-phy-eq0.false in
-    forged_long s (going s c.else-self-ne-MORE.either) k.0 c.if-self-gt127.true
+    let going : (s.ended ≡ MORE) ⊎ (s.ended ≡ DONE) = grind (arith, c.match-matches, c.if-not-matches.false) in
+    forged_long s going c.in-Ok.ensures.0 c.if-self-gt127.true
 
-pub returns-then-phy-self : goal.returns-then-phy-self
-returns-then-phy-self c =
+pub returns-then-from : goal.returns-then-from
+returns-then-from c =
     let s = c.args.self in
-    let k = row_sized s.mode _ c.phy_of-phy.ensures c.if-phy-eq0.false in
-    forged_count s (going s c.else-self-ne-MORE.either) k.0 c.if-self-gt127.false _ (row_limit s.mode k.0 _ c.phy_of-phy.ensures) c.if-phy-self.true
-
-pub overflow_mul-total : goal.overflow_mul-total
-overflow_mul-total c =
-    let s = c.args.self in
-    omega (arith, mul-le-mul_right (6 + s.length) (per_few s.mode _ c.phy_of-phy.ensures))
+    let going : (s.ended ≡ MORE) ⊎ (s.ended ≡ DONE) = grind (arith, c.match-matches, c.if-not-matches.false) in
+    let k = c.in-Ok.ensures in
+    forged_count s going k.0 c.if-self-gt127.false _ (ap (λ (p : Phy). p.limit) k.1)
+    (rw (c.from.ensures, c.from-2.ensures, c.from-3.ensures) at c.if-from.true)
 
 pub returns-then-self-eq-MORE : goal.returns-then-self-eq-MORE
 returns-then-self-eq-MORE c =
     let s = c.args.self in
-    let k = row_sized s.mode _ c.phy_of-phy.ensures c.if-phy-eq0.false in
+    let k = c.in-Ok.ensures in
+    let low = rw (c.from.ensures, c.from-2.ensures, c.from-3.ensures) at c.if-from.false in
     forged_open s _
-    (last_test s (inl c.if-self-eq-MORE.true) k.0 c.if-self-gt127.false _ (row_limit s.mode k.0 _ c.phy_of-phy.ensures) c.if-phy-self.false _ k.1)
+    (last_test s (inl c.if-self-eq-MORE.true) k.0 c.if-self-gt127.false _ (ap (λ (p : Phy). p.limit) k.1) low _ (ap (λ (p : Phy). p.per) k.1))
     c.if-self-eq-MORE.true
 
-pub returns : goal.returns
-returns c =
+pub returns-else-self-eq-MORE : goal.returns-else-self-eq-MORE
+returns-else-self-eq-MORE c =
     let s = c.args.self in
-    let k = row_sized s.mode _ c.phy_of-phy.ensures c.if-phy-eq0.false in
+    let going : (s.ended ≡ MORE) ⊎ (s.ended ≡ DONE) = grind (arith, c.match-matches, c.if-not-matches.false) in
+    let k = c.in-Ok.ensures in
+    let low = rw (c.from.ensures, c.from-2.ensures, c.from-3.ensures) at c.if-from.false in
     forged_ended s _
-    (last_test s (going s c.else-self-ne-MORE.either) k.0 c.if-self-gt127.false _ (row_limit s.mode k.0 _ c.phy_of-phy.ensures) c.if-phy-self.false _ k.1)
+    (last_test s going k.0 c.if-self-gt127.false _ (ap (λ (p : Phy). p.limit) k.1) low _ (ap (λ (p : Phy). p.per) k.1))
     c.if-self-eq-MORE.false
