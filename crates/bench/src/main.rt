@@ -90,8 +90,9 @@ fn capture<'a, R: Read>(input: &mut R, buffer: &'a mut [u8]) -> Result<&'a [u8],
 
 // Reads until the buffer is full or the input ends, and gives back what came. A read that fails is
 // an error, whatever came before it: a capture cut short by it must not be answered. Not std's
-// `io::copy`, which tries an interrupted read again and promises no count; and `send` has the
-// same, since a library's public functions settle what they give back (tests/contracts-test).
+// `io::copy`, which tries an interrupted read again and promises no count; and `send` has the same,
+// since a library's public functions settle what they give back (tests/contracts-test). Input and
+// buffer go apart, as std's `read` has them.
 fn read_all<'a, R: Read>(input: &mut R, buffer: &'a mut [u8]) -> io::Result<&'a [u8]> {
     let mut count: usize = 0;
     while count < buffer.len() {

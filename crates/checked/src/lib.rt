@@ -17,7 +17,7 @@ use codes::{Phy, Refusal};
 use frame::Written;
 
 // Writes the frame of a report with its FCS appended: 1, 14, 2, 16, then the plain writer's 3. The
-// chip count, or why there is none.
+// chip count, or why there is none. Loose parameters and one equation, as in the plain writer.
 pub fn try_write(mode: u32, report: &[u8], chips: &mut [u8]) -> Result<u32, Refusal>
     ensures { outcome (answer_of result) chips.new ≡ written_checked mode report.now chips.old }
 {

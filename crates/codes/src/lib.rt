@@ -43,8 +43,8 @@ impl From<Refusal> for u32 {
     }
 }
 
-// The two numbers given back that are no refusal: done, and more wanted. Numbers, as C's structs and
-// the hand have them.
+// The two numbers given back that are no refusal: done, and more wanted. Numbers, as C's structs
+// and the hand have them.
 pub const DONE: u32 = 0;
 
 pub const MORE: u32 = 13;

@@ -147,7 +147,8 @@ fn least_past(k: &[u16; 16], from: u16) -> u16
         .wrapping_add(from)
 }
 
-// How many of two columns' chips differ from those of a word's, turned left by so many bits.
+// How many of two columns' chips differ from those of a word's, turned left by so many bits. The
+// cast loses nothing, of 16 at most, where `TryFrom` has an error that can't be.
 fn parted(chips: u16, pair: u16, by: u16) -> u16
     ensures { (result ≡ parted chips pair by) × (result ≤ 16) }
 {

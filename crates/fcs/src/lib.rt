@@ -52,7 +52,8 @@ pub fn bitwise(octets: &[u8]) -> u32
         .fold(START, |register, &octet| by_bits(register, octet))
 }
 
-// The eight bits of an octet enter, its lowest first.
+// The eight bits of an octet enter, its lowest first. Not one function with `by_entry`: these are
+// two ways, promised apart (`both_equal`).
 fn by_bits(mut register: u32, octet: u8) -> u32
     ensures { result ≡ register_after register (digits 8 2 octet) }
 {

@@ -5,8 +5,8 @@
 #![tactic(auto)]
 
 // What is carried from symbol to symbol: 13 while more is wanted, else 0 or the refusal; symbols
-// taken; n once it is read, 0 before; chips repaired; the last symbol's value; the octet in hand;
-// the smallest gap; the polarity.
+// taken; n once it is read, 0 before, as `begun` and C's record have it; chips repaired; the last
+// symbol's value; the octet in hand; the smallest gap; the polarity.
 #[derive(Clone, Copy, Default)]
 pub struct Hand {
     // a number, no enum: `stopped` and `followed` (specs/Taking.antt) are of any, as C's record is

@@ -140,7 +140,8 @@ pub fn refusal(number: u32, place: u32) -> Reading
     }
 }
 
-// Stores the first n octets over the first n bytes; nothing where there are not so many of both.
+// Stores the first n octets over the first n bytes; nothing where there are not so many of both
+// (`stored_in`): it can't fail.
 // Octets and n go apart, as its promise has them (`stored_in`).
 pub fn store(octets: [u8; 127], n: usize, report: &mut [u8])
     ensures { report.new ≡ stored_in n octets report.old }

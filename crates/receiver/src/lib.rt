@@ -137,8 +137,8 @@ impl Receiver {
     }
 
     // Whether the calls make no such record: open or ended well, with numbers that no frame has.
-    // The product is of 64 bits, so it doesn't wrap. `ended` is C's number. It is asked again at the
-    // end: one `match` of it, to a flag, makes push 7 to 10 in 100 slower.
+    // The product is of 64 bits, so it doesn't wrap. `ended` is C's number. It is asked again at
+    // the end: one `match` of it, to a flag, makes push 7 to 10 in 100 slower.
     fn forged(self) -> bool
         ensures { result ≡ forged self }
     {
@@ -201,7 +201,8 @@ impl Receiver {
         Receiver::held(self.mode, hand, octets)
     }
 
-    // The record of a mode with these numbers and octets, and the number it has come to.
+    // The record of a mode with these numbers and octets, and the number it has come to. Field by
+    // field: C's struct has its own (so in `report`).
     fn held(mode: u32, hand: Hand, octets: [u8; 127]) -> Step
         ensures { result ≡ step hand.number (held mode hand octets) }
     {

@@ -114,7 +114,8 @@ fn send(rt: &HostRuntime) -> Result<(), Failure> {
 // Reads until the buffer is full or the input ends, and gives back what came. A read that fails is
 // an error, whatever came before it: a report cut short by it must not be sent. Not std's
 // `io::copy`, which tries an interrupted read again and promises no count; and `bench` has the
-// same, since a library's public functions settle what they give back (tests/contracts-test).
+// same, since a library's public functions settle what they give back (tests/contracts-test). Input
+// and buffer go apart, as std's `read` has them.
 fn read_all<'a, R: Read>(input: &mut R, buffer: &'a mut [u8]) -> io::Result<&'a [u8]> {
     let mut count: usize = 0;
     while count < buffer.len() {

@@ -81,8 +81,8 @@ pub fn whole_octets(mode: u32, hand: Hand) -> bool
     Row::of(mode).is_ok_and(|row| (hand.taken as usize).is_multiple_of(row.phy.per))
 }
 
-// Keeps the octet in hand where it is whole and one of the report's. The hand may hold anything:
-// hence the octet's lowest byte.
+// Keeps the octet in hand where it is whole and one of the report's, and does nothing else, as
+// `kept_at` has it: it can't fail. The hand may hold anything: hence the octet's lowest byte.
 pub fn keep(mode: u32, hand: Hand, octets: &mut [u8; 127])
     ensures { octets.new ≡ kept_at mode hand octets.old }
 {
@@ -173,7 +173,8 @@ impl Row {
 
     // What a whole octet brings: the start octet 8 where it is another, the length octet n, the
     // last octet of the frame 0. An n just read has room in every report, so 3 is not among them.
-    // The parts of the frame are plain numbers of octets, as in `rules` (order/specs/Order.antt).
+    // The parts of the frame are plain numbers of octets, as in `rules` (order/specs/Order.antt);
+    // so they are in `decode` and `place`.
     fn rule(self, hand: Hand) -> Result<Hand, Refusal>
         ensures { let n = length_after self.phy.per hand.taken hand.length hand.octet in
             let number = rules self.phy.per 127 hand.taken 0 hand.octet n in

@@ -11,6 +11,7 @@ ghost use Rattle.strips.specs.Strip.{Fits, strip_at, row_at, chip_of, flip_of};
 
 // Word 0 twice, and both with chips inverted; zeros for a mode that has no radio (`strip_at`),
 // since it can't fail.
+#[tactic(auto, using(crate::proofs::Runs::phy_few))]
 pub fn strip(mode: u32) -> [u8; 128]
     ensures { result ≡ strip_at mode }
 {
@@ -34,6 +35,7 @@ pub fn strip(mode: u32) -> [u8; 128]
 // its second half. A bit's words stand 32 apart, since 32 times a bit is a shift: of 15 times a bit
 // the back end makes a choice of two, and of that a jump, which a report's bits leave hard to
 // foresee.
+#[tactic(auto, using(crate::proofs::Runs::phy_few, crate::proofs::Runs::row_few))]
 pub fn row_of(mode: u32, v: usize) -> usize
     ensures { result ≡ row_at mode v }
 {
@@ -47,7 +49,7 @@ pub fn row_of(mode: u32, v: usize) -> usize
 }
 
 // Chip i of word 0, read over and over. Fifteen chips have a sixteenth after them, which no word
-// has.
+// has. The cast is of a bit and loses nothing.
 fn chip(phy: codes::Phy, i: usize) -> u8
     requires { Fits phy }
     ensures { result ≡ chip_of phy i }
@@ -58,7 +60,8 @@ fn chip(phy: codes::Phy, i: usize) -> u8
 }
 
 // Whether chip i is inverted in the second half: of two words every chip, of sixteen the odd ones.
-// The casts here lose nothing: they are of bits.
+// A value and no step, and a function since the proof goes by it (`flip_of`). The cast loses
+// nothing: it is of a bit.
 fn flip(values: usize, i: usize) -> u8
     ensures { result ≡ flip_of values i }
 {

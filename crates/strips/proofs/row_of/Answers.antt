@@ -10,22 +10,8 @@ pub returns-then-phy-v : goal.returns-then-phy-v
 unfolding row_at
 returns-then-phy-v c = rw (← c.phy_of-phy.ensures, le-leb _ _ c.if-phy-v.true)
 
-pub overflow_mul-result : goal.overflow_mul-result
-overflow_mul-result c = let z = c.phy_of-phy in omega (arith, (phy_few _ z.result z.ensures).0)
-
 pub nonzero_div-result : goal.nonzero_div-result
 nonzero_div-result c = let z = c.phy_of-phy in (row_few _ z.result z.ensures _ c.if-phy-v.false).some
-
-pub overflow_mul-result-2 : goal.overflow_mul-result-2
-overflow_mul-result-2 c = let z = c.phy_of-phy in
-    omega (arith, (row_few _ z.result z.ensures _ c.if-phy-v.false).half)
-
-pub overflow_mul-result-3 : goal.overflow_mul-result-3
-overflow_mul-result-3 c = let z = c.phy_of-phy in omega (arith, (phy_few _ z.result z.ensures).0)
-
-pub overflow_add-result : goal.overflow_add-result
-overflow_add-result c = let z = c.phy_of-phy in
-    omega (arith, (phy_few _ z.result z.ensures).0, (row_few _ z.result z.ensures _ c.if-phy-v.false).half)
 
 pub nonzero_rem-result : goal.nonzero_rem-result
 nonzero_rem-result c = let z = c.phy_of-phy in (row_few _ z.result z.ensures _ c.if-phy-v.false).some
@@ -33,9 +19,6 @@ nonzero_rem-result c = let z = c.phy_of-phy in (row_few _ z.result z.ensures _ c
 pub overflow_mul-result-4 : goal.overflow_mul-result-4
 overflow_mul-result-4 c = let z = c.phy_of-phy in
     omega (arith, (phy_few _ z.result z.ensures).0, (row_few _ z.result z.ensures _ c.if-phy-v.false).turn)
-
-pub overflow_sub-result : goal.overflow_sub-result
-overflow_sub-result c = let z = c.phy_of-phy in omega (arith, (row_few _ z.result z.ensures _ c.if-phy-v.false).turn)
 
 pub returns : goal.returns
 unfolding row_at

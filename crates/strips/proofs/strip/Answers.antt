@@ -7,20 +7,11 @@ use Rattle.strips.proofs.Runs.{phy_few, phy_fits, first_half, second_half, behin
 use Rattle.strips.proofs.strip.Goals as goal
 use Rattle.strips.proofs.strip.Goals.{then-i-half, else-i-half}
 
-pub overflow_mul-half : goal.overflow_mul-half
-overflow_mul-half c = let z = c.phy_of-phy in omega (arith, (phy_few _ z.result z.ensures).0)
-
 pub loop-i-init : goal.loop-i-init
 loop-i-init c = made_none (strip_chip c.phy_of-phy.result)
 
 pub chip-word_chip-requires : goal.chip-word_chip-requires
 chip-word_chip-requires c = let z = c.phy_of-phy in phy_fits _ z.result z.ensures (omega (arith, c.loop-i-test.true))
-
-pub bounds-strip-i : goal.bounds-strip-i
-bounds-strip-i c = let z = c.phy_of-phy in omega (arith, (phy_few _ z.result z.ensures).0, c.loop-i-test.true)
-
-pub overflow_mul-i-end : goal.overflow_mul-i-end
-overflow_mul-i-end c = let z = c.phy_of-phy in omega (arith, (phy_few _ z.result z.ensures).0)
 
 pub loop-i-preserved : goal.loop-i-preserved
 loop-i-preserved c =
