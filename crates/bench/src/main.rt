@@ -6,7 +6,7 @@
 // that 198 bytes are room enough, and the reader its reading.
 #![tactic(auto)]
 
-ghost use Rattle.std.specs.Prelude.{◌≡◌, ◌++◌, ◌+◌, ◌<◌, ◌≤◌, length};
+ghost use Rattle.std.specs.Prelude.{◌≡◌, ◌++◌, ◌+◌, ◌<◌, ◌≤◌, length, IfOk};
 ghost use Rattle.bench.specs.Lines.{most, entry, line_of, lines_of};
 
 use arrayvec::ArrayString;
@@ -79,7 +79,9 @@ fn room() -> [u8; MOST]
 
 // The bytes of a capture, up to as many as there is room for. Where more came behind its end it has
 // grown meanwhile, and must not be answered.
-fn capture<'a, R: Read>(input: &mut R, buffer: &'a mut [u8]) -> Result<&'a [u8], Failure> {
+fn capture<'a, R: Read>(input: &mut R, buffer: &'a mut [u8]) -> Result<&'a [u8], Failure>
+    ensures { IfOk result (λ chips. length chips.now ≤ length buffer.old) }
+{
     let room = buffer.len();
     let chips = read_all(input, buffer).map_err(Failure::Input)?;
     if chips.len() < room && !ended(input).map_err(Failure::Input)? {
@@ -93,7 +95,9 @@ fn capture<'a, R: Read>(input: &mut R, buffer: &'a mut [u8]) -> Result<&'a [u8],
 // `io::copy`, which tries an interrupted read again and promises no count; and `send` has the same,
 // since a library's public functions settle what they give back (tests/contracts-test). Input and
 // buffer go apart, as std's `read` has them.
-fn read_all<'a, R: Read>(input: &mut R, buffer: &'a mut [u8]) -> io::Result<&'a [u8]> {
+fn read_all<'a, R: Read>(input: &mut R, buffer: &'a mut [u8]) -> io::Result<&'a [u8]>
+    ensures { IfOk result (λ came. length came.now ≤ length buffer.old) }
+{
     let mut count: usize = 0;
     while count < buffer.len() {
         let more = input.read(&mut buffer[count..])?;

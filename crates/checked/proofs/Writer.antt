@@ -1,11 +1,13 @@
--- What the checked writer sends, and how many chips. Assumes nothing.
+-- What the checked writer refuses, what it sends, and how many chips. Assumes nothing.
 use mathlib.Core.Path.{◌≡◌, refl, ap, ◌∙◌}
+use mathlib.Core.Bool.{Bool, true}
 use mathlib.Core.List.{List, ◌++◌}
 use Prim.Native.Nat.{ℕ, ◌+◌, ◌-◌, ◌/◌, ◌%◌, ◌≤◌}
 use native.Mathlib.Omega.{arith}
 use lib.ListN.{length, take, length-append}
 use lib.Seq.{take_at}
 use lib.Dec.{eqb, ltb}
+use borrow.Author.Tests.{le-ltb, ne_eqb}
 use borrow.Rule.Slice.PartMut.{put_mid}
 use Rattle.std.specs.Int.{w16, to_le_bytes}
 use Rattle.std.proofs.lemmas.Slice.{take-put_mid}
@@ -14,11 +16,18 @@ use Rattle.codes.specs.Radio.{known}
 use Rattle.codes.proofs.Tests.{by_test}
 use Rattle.frame.specs.declared.Written.{Written}
 use Rattle.frame.specs.Outcome.{Outcome, outcome}
-use Rattle.frame.specs.Write.{unwritten}
+use Rattle.frame.specs.Write.{refused, unwritten}
 use Rattle.frame.proofs.Writer.{chips_fit}
 use Rattle.fcs.specs.Fcs.{fcs_of, fcs_octets, with_fcs}
 use Rattle.fcs.proofs.Remainder.{fcs_below}
 use Rattle.checked.specs.Profile.{all_zero, written_checked}
+
+-- the way of a report whose octets are all 0, where the tests before it pass
+module _ (mode : ℕ) (report buffer : List ℕ) (m : known mode ≡ true) (s : length report ≡ 0 → ⊥) (l : length report ≤ 125)
+    (zero : Bool) (z : zero ≡ all_zero report) where
+  pub all_zero_lem : (w : Written) → w ≡ refused ALLZERO → zero ≡ true → outcome w buffer ≡ written_checked mode report buffer
+  unfolding written_checked
+  all_zero_lem w e t = rw (e, m, ne_eqb (length report) 0 s, le-ltb 125 (length report) l, ← z, t)
 
 -- a report at the front of octets aside, and the two of its FCS written after it
 pub appended : (report front rest two : List ℕ) (fcs : ℕ) → front ≡ report → fcs ≡ fcs_of report → two ≡ to_le_bytes w16 fcs

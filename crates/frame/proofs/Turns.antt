@@ -52,7 +52,7 @@ module _ (r : Radio) (last octet : ℕ) (out : List ℕ) where
         (sym (L.tail_last ∙ rw z), sym (L.tail ∙ rw (z, all) (append-nil out)))
 
     module _ (h : i < per_octet r) (S : Sound r) (v' rest' : ℕ) (e : v' ≡ sent r v (rest % 2 ^ r.bits)) (q : rest' ≡ rest / 2 ^ r.bits) where
-      octet_value : v' < 2 ^ r.bits
+      pub octet_value : v' < 2 ^ r.bits
       octet_value = rw e (sent_below r S v (rest % 2 ^ r.bits) (mod-lt rest (pow_pos r.bits)))
 
       next_digit : digits (per_octet r - i) (2 ^ r.bits) rest ≡ rest % 2 ^ r.bits ∷ digits (per_octet r - (i + 1)) (2 ^ r.bits) rest'

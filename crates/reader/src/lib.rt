@@ -34,7 +34,7 @@ pub struct Reading {
 // Reads the frame of the mode's radio that the chips begin with, and stores its report. Each mode's
 // loop is made by itself, of constants; a closure can't be generic over a type, so each entry has
 // this `match`. The octets gather aside and are stored once: n is C's, and 0 on a refusal, so then
-// nothing is; a second test would say the same.
+// nothing is: `store` tests it.
 pub fn read(mode: u32, chips: &[u8], report: &mut [u8]) -> Reading
     ensures { outcome result report.new ≡ read_of mode chips.now report.old }
 {
@@ -146,6 +146,11 @@ pub fn refusal(number: u32, place: u32) -> Reading
 pub fn store(octets: [u8; 127], n: usize, report: &mut [u8])
     ensures { report.new ≡ stored_in n octets report.old }
 {
+    // Nothing to store, as after a refusal: without this test a refused take took a quarter more
+    // time.
+    if n == 0 {
+        return;
+    }
     if n <= octets.len() && n <= report.len() {
         report[..n].copy_from_slice(&octets[..n]);
     }

@@ -112,8 +112,8 @@ impl Receiver {
     }
 
     // What the record has come to: 34, 12, the refusal that ended it, 3 where the lent buffer is
-    // too short, or 0 and the report. n is C's, and 0 on anything but 0, so then nothing is stored;
-    // a second test would say the same.
+    // too short, or 0 and the report. n is C's, and 0 on anything but 0, so then nothing is stored:
+    // `store` tests it.
     pub fn take(self, report: &mut [u8]) -> Reading
         ensures { outcome result report.new ≡ take_of self report.old }
     {

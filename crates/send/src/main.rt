@@ -102,13 +102,20 @@ fn send(rt: &HostRuntime) -> Result<(), Failure> {
     // One octet more than a report may have, so that a longer one is refused and not cut.
     let mut report = [0u8; 128];
     let octets = read_all(&mut rt.stdin(), &mut report).map_err(Failure::Input)?;
-    // Room for the longest frame. Each program's own number: a public constant would be a line more
-    // in a library, and none less here.
-    let mut chips = [0; 15960];
+    let mut chips = buffer();
     let count = profile.write(mode, octets, &mut chips).map_err(refused)?;
     // A count and not the slice: `written_as` speaks of the whole buffer, as C's answer does.
     rt.write_all(&chips[..count as usize])
         .map_err(Failure::Output)
+}
+
+// Room for the longest frame. A function for its promise: an array made in `send`, one byte too
+// short, no proof would refuse. Each program's own number: a public constant would be a line more
+// in a library, and none less here.
+fn buffer() -> [u8; 15960]
+    ensures { 15960 ≡ length result }
+{
+    [0; 15960]
 }
 
 // Reads until the buffer is full or the input ends, and gives back what came. A read that fails is
@@ -116,7 +123,9 @@ fn send(rt: &HostRuntime) -> Result<(), Failure> {
 // `io::copy`, which tries an interrupted read again and promises no count; and `bench` has the
 // same, since a library's public functions settle what they give back (tests/contracts-test). Input
 // and buffer go apart, as std's `read` has them.
-fn read_all<'a, R: Read>(input: &mut R, buffer: &'a mut [u8]) -> io::Result<&'a [u8]> {
+fn read_all<'a, R: Read>(input: &mut R, buffer: &'a mut [u8]) -> io::Result<&'a [u8]>
+    ensures { IfOk result (λ came. length came.now ≤ length buffer.old) }
+{
     let mut count: usize = 0;
     while count < buffer.len() {
         let more = input.read(&mut buffer[count..])?;

@@ -7,6 +7,8 @@
 // length is in its type.
 #![tactic(auto)]
 
+ghost use Rattle.std.specs.Prelude.{◌≡◌, length};
+
 use reader::Reading;
 use std::io;
 
@@ -16,8 +18,7 @@ const LONGEST: usize = 15960;
 
 fn main(rt: HostRuntime) -> io::Result<()> {
     let report = [0x5Au8; 128];
-    // No chip is in it: what the writer leaves alone stays 255.
-    let mut chips = [255; LONGEST];
+    let mut chips = buffer();
     write_lines(&rt, &report, &mut chips)?;
     read_lines(&rt, &report[..5], &mut chips)?;
     for text in ["", "rope 12 wet"] {
@@ -26,6 +27,14 @@ fn main(rt: HostRuntime) -> io::Result<()> {
         }
     }
     Ok(())
+}
+
+// Room for the longest frame, with no chip in it: what the writer leaves alone stays 255. A
+// function for its promise: an array made in `main`, one byte too short, no proof would refuse.
+fn buffer() -> [u8; LONGEST]
+    ensures { 15960 ≡ length result }
+{
+    [255; LONGEST]
 }
 
 // The longest report into just enough room and into a chip less; a longer one; modes that no radio

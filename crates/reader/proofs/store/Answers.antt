@@ -1,8 +1,14 @@
 -- `store` meets its contract: the tests of the definition. Assumes nothing.
-use Rattle.std.proofs.Common.{◌≡◌, length, arith, rules, length-take-le}
-use Rattle.reader.proofs.Told.{store_many, store_short, stored}
+use Rattle.std.proofs.Common.{◌≡◌, length, sym, arith, rules, length-take-le}
+use Rattle.reader.proofs.Told.{store_many, store_short, stored, stored_none}
 use Rattle.reader.proofs.store.Goals as goal
 use Rattle.reader.proofs.store.Goals.{else-n-le127-via-then-n-le127+else-n-report, else-n-le127-via-else-n-le127}
+
+pub returns-then-n-eq0 : goal.returns-then-n-eq0
+returns-then-n-eq0 c =
+    let a = c.args in
+    let l : length a.octets ≡ 127 = search rules in
+    rw c.if-n-eq0.true (sym (stored_none a.octets a.report.now l))
 
 pub returns-then-n-report : goal.returns-then-n-report
 returns-then-n-report c =
